@@ -1,0 +1,82 @@
+-- Fields of n bytes in a file, and what names are made of.
+use mathlib.Core.Path.{_≡_, refl, sym, ap, _∙_}
+use mathlib.Core.Bool.{Bool, true, false, _&&_, or-true, false≢true}
+use mathlib.Core.Logic.{_⊎_, inl, inr}
+use mathlib.Core.List.{List, [], _∷_}
+use Prim.Native.Nat.{ℕ, zero, suc, _+_, _-_, _≤_, _<_}
+use native.Mathlib.Omega.{arith}
+use lib.Dec.{eqb, leb}
+use lib.ListN.{length, getD, take, drop}
+use lib.Seq.{drop-cons, drop-drop, take-nil}
+use borrow.Author.Tests.{eq-eqb, ne-eqb, le-leb, leb-true}
+use Rattle.plan.specs.Names.{isNameByte, allZero, nameThenZeros, nameOk, withoutZeros, nameField, same, namedEarlier}
+use Rattle.plan.specs.Inner.{nameLength}
+use Rattle.plan.proofs.Rules.{bool, eq-or-ne, and-left, and-right}
+
+pub ne-zero : (k : ℕ) → (k ≡ 0 → ⊥) → 1 ≤ k
+ne-zero zero h = absurd (h refl)
+ne-zero (suc k) h = omega arith
+
+-- what is left of a field of n bytes, byte by byte
+pub field-next : (s : List ℕ) (at n k : ℕ) → k < n → at + n ≤ length s → take (n - k) (drop (at + k) s) ≡ getD s (at + k) 0 ∷ take (n - (k + 1)) (drop (at + (k + 1)) s)
+field-next s at n k h l =
+    let e : n - k ≡ suc (n - (k + 1)) = omega arith in
+    let a : at + (k + 1) ≡ suc (at + k) = omega arith in
+    let b : at + k < length s = omega arith in
+    rw (e, a, drop-cons s (at + k) 0 b)
+
+pub field-end : (s : List ℕ) (n k : ℕ) → n ≤ k → take (n - k) s ≡ []
+field-end s n k h = let e : n - k ≡ 0 = omega arith in rw e
+
+drop-take : (k n : ℕ) (l : List ℕ) → drop k (take n l) ≡ take (n - k) (drop k l)
+drop-take zero n l = let e : n - 0 ≡ n = omega arith in rw e
+drop-take (suc k) zero l = let e : 0 - suc k ≡ 0 = omega arith in rw e
+drop-take (suc k) (suc n) [] = let e : suc n - suc k ≡ n - k = omega arith in rw e (sym (take-nil (n - k)))
+drop-take (suc k) (suc n) (x ∷ l) = let e : suc n - suc k ≡ n - k = omega arith in rw e (drop-take k n l)
+
+pub field-drop : (s : List ℕ) (at n k : ℕ) → drop k (take n (drop at s)) ≡ take (n - k) (drop (at + k) s)
+field-drop s at n k = drop-take k n (drop at s) ∙ ap (take (n - k)) (drop-drop k at s)
+
+-- a name is good where its field begins with name bytes and the rest is zero
+name-begins : (l : List ℕ) → isNameByte (getD l 0 0) ≡ leb 1 (nameLength l)
+name-begins [] = refl
+name-begins (b ∷ bs) = elim (bool (isNameByte b)) [ inl e ↦ let h : 1 ≤ suc (nameLength bs) = omega arith in rw (e, nameLength) (sym (le-leb 1 (suc (nameLength bs)) h)) | inr e ↦ rw (e, nameLength) refl ]
+
+name-rest : (l : List ℕ) → nameThenZeros l ≡ allZero (drop (nameLength l) l)
+name-rest [] = refl
+name-rest (b ∷ bs) = elim (bool (isNameByte b)) [ inl e ↦ rw (e, nameLength, nameThenZeros) (name-rest bs) | inr e ↦ rw (e, nameLength, nameThenZeros) refl ]
+
+pub name-ok-is : (l : List ℕ) → nameOk l ≡ (leb 1 (nameLength l) && allZero (drop (nameLength l) l))
+name-ok-is l = rw (name-begins, name-rest)
+
+-- a good name without its zeros is the name bytes that its field begins with
+zero-no-name : (b : ℕ) → b ≡ 0 → isNameByte b ≡ false
+zero-no-name b e = rw e
+
+then-zeros : (l : List ℕ) → nameThenZeros l ≡ true → withoutZeros l ≡ take (nameLength l) l
+then-zeros [] e = refl
+then-zeros (b ∷ bs) e = elim (bool (isNameByte b)) [
+  | inl n ↦ elim (eq-or-ne b 0) [
+    | inl z ↦ absurd (false≢true (sym (zero-no-name b z) ∙ n))
+    | inr z ↦ rw (ne-eqb b 0 z, n, withoutZeros, nameLength) (ap (λ (l : List ℕ). b ∷ l) (then-zeros bs (rw (n, nameThenZeros) at e)))
+  ]
+  | inr n ↦ rw (and-left (eqb b 0) (allZero bs) (rw (n, nameThenZeros) at e), n, withoutZeros, nameLength)
+]
+
+pub name-is : (l : List ℕ) → nameOk l ≡ true → withoutZeros l ≡ take (nameLength l) l
+name-is l e = then-zeros l (and-right (isNameByte (getD l 0 0)) (nameThenZeros l) e)
+
+pub name-length-le : (l : List ℕ) → nameLength l ≤ length l
+name-length-le [] = omega arith
+name-length-le (b ∷ bs) = elim (bool (isNameByte b)) [ inl e ↦ rw (e, nameLength) (omega (arith, name-length-le bs)) | inr e ↦ rw (e, nameLength) (omega arith) ]
+
+pub name-some : (l : List ℕ) → nameOk l ≡ true → 1 ≤ nameLength l
+name-some l e = leb-true 1 (nameLength l) (sym (name-begins l) ∙ and-left (isNameByte (getD l 0 0)) (nameThenZeros l) e)
+
+-- task i has the name of an earlier one
+pub earlier-found : (s : List ℕ) (i j m : ℕ) → j < m → same (nameField s i) (nameField s j) ≡ true → namedEarlier s i m ≡ true
+earlier-found s i j zero h e = let z : ⊥ = omega arith in absurd z
+earlier-found s i j (suc m) h e = elim (eq-or-ne j m) [
+  | inl z ↦ rw (← z, e) (or-true (namedEarlier s i j))
+  | inr z ↦ rw (earlier-found s i j m (omega arith) e)
+]

@@ -1,0 +1,7 @@
+-- Laws of the plan file, by subject.
+pub mod Rules
+pub mod Fields
+mod Columns
+mod Decoding
+pub mod Loading
+pub mod Accepted

@@ -1,0 +1,95 @@
+-- From the layout's answer to its rules, and from the rules in their order to the file's refusal.
+use mathlib.Core.Path.{_≡_, refl, sym, ap, _∙_}
+use mathlib.Core.Bool.{Bool, true, false, _&&_, _||_, not, cond, false≢true}
+use mathlib.Core.Logic.{inl, inr}
+use mathlib.Core.List.{List, [], _∷_}
+use Prim.Native.Nat.{ℕ, suc, _≤_}
+use native.Mathlib.Omega.{arith}
+use lib.Dec.{eqb, ltb, leb}
+use lib.ListN.{length}
+use borrow.Author.Tests.{eq-eqb, ne-eqb, eqb-true, eqb-false, leb-true, ltb-false, not-false}
+use Rattle.plan.specs.declared.layout.Areas.{Areas}
+use Rattle.plan.specs.declared.layout.Layout.the-variants.{Located, Broken}
+use Rattle.plan.specs.declared.reader.Loaded.{Loaded}
+use Rattle.plan.specs.Faults.{Fault, fault, none, faultIf, passed, orElse, firstFault}
+use Rattle.plan.specs.Tasks.{between}
+use Rattle.plan.specs.Layout.{taskCount, rowsAt, rowsEnd, namesAt, namesEnd, outside}
+use Rattle.plan.specs.Files.{lengthFault, versionFault, countFault, totalFault, rowsFault, namesFault, overlapFault, layoutFault, gapFault, taskFault, tasksFault, sameNameFault, fileFault, accepted, tasksOf}
+use Rattle.plan.specs.Inner.{areasOf, laidOut, layoutNumber, layoutPlace, AreasOf}
+use Rattle.plan.specs.Promises.{Refuses, Decodes, Loads}
+use Rattle.plan.proofs.Rules.{bool, or-next, or-here, or-first, or-second, if-passed, and-left, and-right, run-none}
+
+or-left : (a b : Bool) → (a || b) ≡ false → a ≡ false
+or-left true b e = e
+or-left false b e = refl
+
+or-right : (a b : Bool) → (a || b) ≡ false → b ≡ false
+or-right true b e = absurd (false≢true (sym e))
+or-right false b e = e
+
+in-range : (low x high : ℕ) (n p : ℕ) → faultIf (not (between low x high)) (suc n) p .number ≡ 0 → (low ≤ x) × (x ≤ high)
+in-range low x high n p e =
+    let b = not-false (between low x high) (if-passed (not (between low x high)) n p e) in
+    (leb-true low x (and-left (leb low x) (leb x high) b), leb-true x high (and-right (leb low x) (leb x high) b))
+
+inside : (total start end : ℕ) (n p : ℕ) → faultIf (outside total start end) (suc n) p .number ≡ 0 → (16 ≤ start) × (end ≤ total)
+inside total start end n p e =
+    let b = if-passed (outside total start end) n p e in
+    (ltb-false start 16 (or-left (ltb start 16) (ltb total end) b), ltb-false total end (or-right (ltb start 16) (ltb total end) b))
+
+module _ (s : List ℕ) where
+  -- rules 1 to 6 passed
+  pub areas-of : layoutFault s .number ≡ 0 → AreasOf s (areasOf s)
+  areas-of e =
+      let e2 = or-second (lengthFault s) (firstFault (versionFault s ∷ countFault s ∷ totalFault s ∷ rowsFault s ∷ namesFault s ∷ overlapFault s ∷ [])) e in
+      let e3 = or-second (versionFault s) (firstFault (countFault s ∷ totalFault s ∷ rowsFault s ∷ namesFault s ∷ overlapFault s ∷ [])) e2 in
+      let e4 = or-second (countFault s) (firstFault (totalFault s ∷ rowsFault s ∷ namesFault s ∷ overlapFault s ∷ [])) e3 in
+      let e5 = or-second (totalFault s) (firstFault (rowsFault s ∷ namesFault s ∷ overlapFault s ∷ [])) e4 in
+      let e6 = or-second (rowsFault s) (firstFault (namesFault s ∷ overlapFault s ∷ [])) e5 in
+      let size = in-range 16 (length s) 2048 0 0 (or-first (lengthFault s) (firstFault (versionFault s ∷ countFault s ∷ totalFault s ∷ rowsFault s ∷ namesFault s ∷ overlapFault s ∷ [])) e) in
+      let count = in-range 1 (taskCount s) 16 2 0 (or-first (countFault s) (firstFault (totalFault s ∷ rowsFault s ∷ namesFault s ∷ overlapFault s ∷ [])) e3) in
+      let rows = inside (length s) (rowsAt s) (rowsEnd s) 4 1 (or-first (rowsFault s) (firstFault (namesFault s ∷ overlapFault s ∷ [])) e5) in
+      let names = inside (length s) (namesAt s) (namesEnd s) 4 2 (or-first (namesFault s) (firstFault (overlapFault s ∷ [])) e6) in
+      record { tasks = refl; rows = refl; names = refl; some = count .0; few = count .1; short = size .1; rows-from = rows .0; rows-to = rows .1; names-from = names .0; names-to = names .1 }
+
+  pub located : (a : Areas) → Located a ≡ laidOut s → AreasOf s a × (layoutFault s .number ≡ 0)
+  located a e = elim (bool (passed (layoutFault s))) [
+    | inl b ↦ let z : a ≡ areasOf s = cc (rw b at e) in let l = eqb-true (layoutFault s .number) 0 b in (rw z (areas-of l), l)
+    | inr b ↦ let z : _≡_ {A = ℕ} 0 1 = cc (rw b at e) in absurd (omega arith)
+  ]
+
+  pub unlocated : (n p : ℕ) → Broken n p ≡ laidOut s → (n ≡ 0 → ⊥) × (layoutFault s ≡ fault n p)
+  unlocated n p e = elim (bool (passed (layoutFault s))) [
+    | inl b ↦ let z : _≡_ {A = ℕ} 0 1 = cc (rw b at e) in absurd (omega arith)
+    | inr b ↦ let d = rw b at e in let f = ap layoutNumber d in let g = ap layoutPlace d in
+        (λ z. eqb-false (layoutFault s .number) 0 b (sym f ∙ z), rw (f, g))
+  ]
+
+  -- the first rule that is broken, in the file's order
+  pub at-layout : (n p : ℕ) → layoutFault s ≡ fault n p → (n ≡ 0 → ⊥) → fileFault s ≡ fault n p
+  unfolding fileFault
+  at-layout n p e h = or-here (layoutFault s) _ (λ z. h (sym (ap (λ f. f .number) e) ∙ z)) ∙ e
+
+  module _ (l : layoutFault s .number ≡ 0) where
+    pub at-gap : (n p : ℕ) → gapFault s ≡ fault n p → (n ≡ 0 → ⊥) → fileFault s ≡ fault n p
+    unfolding fileFault
+    at-gap n p e h = or-next (layoutFault s) _ l ∙ or-here (gapFault s) _ (λ z. h (sym (ap (λ f. f .number) e) ∙ z)) ∙ e
+
+    pub at-tasks : gapFault s ≡ none → (tasksFault s .number ≡ 0 → ⊥) → fileFault s ≡ tasksFault s
+    unfolding fileFault
+    at-tasks g h = or-next (layoutFault s) _ l ∙ or-next (gapFault s) _ (ap (λ f. f .number) g) ∙ or-here (tasksFault s) _ h
+
+    pub at-names : gapFault s ≡ none → tasksFault s .number ≡ 0 → fileFault s ≡ orElse (sameNameFault s) none
+    unfolding fileFault
+    at-names g t = or-next (layoutFault s) _ l ∙ or-next (gapFault s) _ (ap (λ f. f .number) g) ∙ or-next (tasksFault s) _ t
+
+  pub loads-refused : (n p : ℕ) (r : Loaded) → fileFault s ≡ fault n p → (n ≡ 0 → ⊥) → Refuses n p r → Loads s r
+  loads-refused n p r e h f = record { number = f .numbered ∙ sym (ap (λ g. g .number) e); place = f .placed ∙ sym (ap (λ g. g .place) e); plan = rw (e, ne-eqb n 0 h) (f .empty) }
+
+  pub loads-broken : (r : Loaded) → fileFault s ≡ tasksFault s → Decodes s r → Loads s r
+  loads-broken r e d = record { number = d .number ∙ sym (ap (λ g. g .number) e); place = d .place ∙ sym (ap (λ g. g .place) e); plan = rw e (d .plan) }
+
+  pub loads-all : (r : Loaded) → fileFault s ≡ none → tasksFault s .number ≡ 0 → Decodes s r → Loads s r
+  loads-all r e t d =
+      let q = run-none (taskFault s) (taskCount s) 0 t in
+      record { number = d .number ∙ t ∙ sym (ap (λ g. g .number) e); place = d .place ∙ ap (λ g. g .place) q ∙ sym (ap (λ g. g .place) e); plan = rw e (rw (eq-eqb (tasksFault s .number) 0 t) at (d .plan)) }

@@ -1,0 +1,78 @@
+-- The first broken rule: of two, of a list, of a run.
+use mathlib.Core.Path.{_≡_, refl, sym, ap, _∙_}
+use mathlib.Core.Bool.{Bool, true, false, _&&_, cond, false≢true}
+use mathlib.Core.Logic.{_⊎_, inl, inr}
+use Prim.Native.Nat.{ℕ, zero, suc, _+_, _-_, _≤_, _<_}
+use native.Mathlib.Omega.{arith}
+use lib.Dec.{eqb}
+use borrow.Author.Tests.{eq-eqb, ne-eqb, eqb-true, eqb-false}
+use Rattle.plan.specs.Faults.{Fault, fault, none, faultIf, passed, orElse, firstFrom}
+
+-- cases, to be taken apart in place: elim (bool t) [ inl e ↦ .. | inr e ↦ .. ]
+pub bool : (t : Bool) → (t ≡ true) ⊎ (t ≡ false)
+bool true = inl refl
+bool false = inr refl
+
+pub eq-or-ne : (a b : ℕ) → (a ≡ b) ⊎ (a ≡ b → ⊥)
+eq-or-ne a b = elim (bool (eqb a b)) [ inl e ↦ inl (eqb-true a b e) | inr e ↦ inr (eqb-false a b e) ]
+
+pub and-left : (a b : Bool) → (a && b) ≡ true → a ≡ true
+and-left true b e = refl
+and-left false b e = e
+
+pub and-right : (a b : Bool) → (a && b) ≡ true → b ≡ true
+and-right true b e = e
+and-right false b e = absurd (false≢true e)
+
+-- a rule that passed leaves the word to the next; one that did not has it
+pub or-next : (f g : Fault) → f .number ≡ 0 → orElse f g ≡ g
+or-next f g e = rw (eq-eqb (f .number) 0 e)
+
+pub or-here : (f g : Fault) → (f .number ≡ 0 → ⊥) → orElse f g ≡ f
+or-here f g h = rw (ne-eqb (f .number) 0 h)
+
+-- no fault of two is no fault of either
+pub or-first : (f g : Fault) → orElse f g .number ≡ 0 → f .number ≡ 0
+or-first f g e = elim (eq-or-ne (f .number) 0) [ inl z ↦ z | inr z ↦ rw (or-here f g z) at e ]
+
+pub or-second : (f g : Fault) → orElse f g .number ≡ 0 → g .number ≡ 0
+or-second f g e = rw (or-next f g (or-first f g e)) at e
+
+-- a test as its rule's fault
+pub if-passed : (b : Bool) (n p : ℕ) → faultIf b (suc n) p .number ≡ 0 → b ≡ false
+if-passed true n p e = let z : ⊥ = omega arith in absurd z
+if-passed false n p e = refl
+
+-- a run of n rules from 0 or later, at rule i
+module _ (f : ℕ → Fault) (n i : ℕ) where
+  left : i < n → n - i ≡ suc (n - (i + 1))
+  left h = omega arith
+
+  pub run-here : i < n → (f i .number ≡ 0 → ⊥) → firstFrom f (n - i) i ≡ f i
+  unfolding firstFrom
+  run-here h z = rw (left h) (or-here (f i) _ z)
+
+  pub run-next : i < n → f i .number ≡ 0 → firstFrom f (n - i) i ≡ firstFrom f (n - (i + 1)) (i + 1)
+  unfolding firstFrom
+  run-next h z = let e : suc i ≡ i + 1 = omega arith in rw (left h) (or-next (f i) _ z ∙ ap (firstFrom f (n - (i + 1))) e)
+
+  pub run-if : (m p : ℕ) → i < n → f i ≡ fault (suc m) p → firstFrom f (n - i) i ≡ fault (suc m) p
+  run-if m p h e = run-here h (λ z. let q : suc m ≡ 0 = sym (ap (λ g. g .number) e) ∙ z in omega arith) ∙ e
+
+  pub run-end : n ≤ i → firstFrom f (n - i) i ≡ none
+  unfolding firstFrom
+  run-end h = let e : n - i ≡ 0 = omega arith in rw e
+
+-- a run without a fault: each of its rules passed
+pub run-passed : (f : ℕ → Fault) (left i : ℕ) → firstFrom f left i .number ≡ 0 → (k : ℕ) → i ≤ k → k < i + left → f k .number ≡ 0
+unfolding firstFrom
+run-passed f zero i e k p q = let z : ⊥ = omega arith in absurd z
+run-passed f (suc left) i e k p q = elim (eq-or-ne i k) [
+  | inl z ↦ rw z at (or-first (f i) (firstFrom f left (suc i)) e)
+  | inr z ↦ run-passed f left (suc i) (or-second (f i) (firstFrom f left (suc i)) e) k (omega arith) (omega arith)
+]
+
+pub run-none : (f : ℕ → Fault) (left i : ℕ) → firstFrom f left i .number ≡ 0 → firstFrom f left i ≡ none
+unfolding firstFrom
+run-none f zero i e = refl
+run-none f (suc left) i e = or-next (f i) _ (or-first (f i) (firstFrom f left (suc i)) e) ∙ run-none f left (suc i) (or-second (f i) (firstFrom f left (suc i)) e)

@@ -1,0 +1,28 @@
+use mathlib.Core.Path.{sym, _∙_}
+use borrow.Author.Needs.{needs}
+use Rattle.plan.proofs.names.is_name_byte.Statement.{statement}
+use Rattle.plan.proofs.names.is_name_byte.Tie as tie
+
+between-requires : tie.Need-between-requires
+between-requires c κs = search needs
+
+returns : tie.Need-returns
+returns c = rw (sym (c .before .between .ensures) ∙ c .if1 .taken)
+
+between-requires-2 : tie.Need-between-requires-2
+between-requires-2 c κs = search needs
+
+returns-2 : tie.Need-returns-2
+returns-2 c = rw (sym (c .before .before .before .between .ensures) ∙ c .before .before .if1 .left, sym (c .before .between2 .ensures) ∙ c .if2 .taken)
+
+between-requires-3 : tie.Need-between-requires-3
+between-requires-3 c κs = search needs
+
+returns-3 : tie.Need-returns-3
+returns-3 c = rw (sym (c .before .before .before .before .before .between .ensures) ∙ c .before .before .before .before .if1 .left, sym (c .before .before .before .between2 .ensures) ∙ c .before .before .if2 .left, sym (c .before .between3 .ensures) ∙ c .if3 .taken)
+
+returns-4 : tie.Need-returns-4
+returns-4 c = rw (sym (c .before .before .before .before .before .between .ensures) ∙ c .before .before .before .before .if1 .left, sym (c .before .before .before .between2 .ensures) ∙ c .before .before .if2 .left, sym (c .before .between3 .ensures) ∙ c .if3 .left)
+
+pub is-name-byte-spec : {M : Type 1} → statement M
+is-name-byte-spec = tie.close (tie.spec between-requires returns between-requires-2 returns-2 between-requires-3 returns-3 returns-4)

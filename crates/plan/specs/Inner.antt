@@ -1,0 +1,59 @@
+-- What the inner functions promise, for their callers' proofs. A reader of the public calls needs none of it.
+use mathlib.Core.Path.{_≡_}
+use mathlib.Core.Bool.{Bool, true, false, cond}
+use mathlib.Core.List.{List, [], _∷_}
+use Prim.Native.Nat.{ℕ, zero, suc, _≤_}
+use lib.Dec.{ltb}
+use lib.ListN.{length}
+use Rattle.plan.specs.declared.record.Task.{Task}
+use Rattle.plan.specs.declared.rows.Row.{Row}
+use Rattle.plan.specs.declared.rows.Row.the-variants.{Decoded, Refused}
+use Rattle.plan.specs.declared.layout.Areas.{Areas}
+use Rattle.plan.specs.declared.layout.Layout.{Layout}
+use Rattle.plan.specs.declared.layout.Layout.the-variants.{Located, Broken}
+use Rattle.plan.specs.Faults.{Fault, passed}
+use Rattle.plan.specs.Tasks.{withinLimits, maxTasks, maxFile}
+use Rattle.plan.specs.Layout.{headerWidth, taskCount, rowsAt, rowsEnd, namesAt, namesEnd}
+use Rattle.plan.specs.Names.{isNameByte}
+use Rattle.plan.specs.Files.{layoutFault}
+
+-- the row decoder's answer, and the number of each of its cases
+abbrev pub decoded : Task → Row
+decoded t = cond (withinLimits t) (cond (ltb (t .«period_max») (t .«period_min»)) (Refused 9) (Decoded t)) (Refused 8)
+
+abbrev pub numberOf : Row → ℕ
+numberOf (Decoded t) = 0
+numberOf (Refused n) = n
+
+-- the header's answer, and the number and place of each of its cases
+abbrev pub areasOf : List ℕ → Areas
+areasOf s = record { tasks = taskCount s; rows = rowsAt s; names = namesAt s }
+
+abbrev pub laidOut : List ℕ → Layout
+laidOut s = cond (passed (layoutFault s)) (Located (areasOf s)) (Broken (layoutFault s .number) (layoutFault s .place))
+
+abbrev pub layoutNumber : Layout → ℕ
+layoutNumber (Located a) = 0
+layoutNumber (Broken n p) = n
+
+abbrev pub layoutPlace : Layout → ℕ
+layoutPlace (Located a) = 0
+layoutPlace (Broken n p) = p
+
+-- the areas of a file that passed rules 1 to 6
+pub record AreasOf (s : List ℕ) (a : Areas) : Type 0 where
+  pub tasks : a .tasks ≡ taskCount s
+  pub rows : a .rows ≡ rowsAt s
+  pub names : a .names ≡ namesAt s
+  pub some : 1 ≤ taskCount s
+  pub few : taskCount s ≤ maxTasks
+  pub short : length s ≤ maxFile
+  pub rows-from : headerWidth ≤ rowsAt s
+  pub rows-to : rowsEnd s ≤ length s
+  pub names-from : headerWidth ≤ namesAt s
+  pub names-to : namesEnd s ≤ length s
+
+-- how many name bytes a field begins with
+abbrev pub nameLength : List ℕ → ℕ
+nameLength [] = 0
+nameLength (b ∷ bs) = elim (isNameByte b) [ true ↦ suc (nameLength bs) | false ↦ 0 ]

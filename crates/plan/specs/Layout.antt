@@ -1,0 +1,52 @@
+-- The header, the two areas and the gaps. Task i is counted from 0 here; its place in a refusal is i + 1.
+use mathlib.Core.Bool.{Bool, _&&_, _||_, not}
+use mathlib.Core.List.{List}
+use Prim.Native.Nat.{ℕ, _+_, _*_}
+use lib.Dec.{ltb, leb}
+use Rattle.plan.specs.Words.{word2, word4}
+use Rattle.plan.specs.Tasks.{rowWidth}
+
+-- "A header of 16 bytes: version at 0 (2 bytes, value 1); n at 2 (2 bytes); offset of the rows at 4, offset of the names at 8,
+-- total length at 12 (4 bytes each)"
+abbrev pub headerWidth : ℕ
+headerWidth = 16
+
+abbrev pub version : List ℕ → ℕ
+version s = word2 s 0
+
+abbrev pub taskCount : List ℕ → ℕ
+taskCount s = word2 s 2
+
+abbrev pub rowsAt : List ℕ → ℕ
+rowsAt s = word4 s 4
+
+abbrev pub namesAt : List ℕ → ℕ
+namesAt s = word4 s 8
+
+abbrev pub totalLength : List ℕ → ℕ
+totalLength s = word4 s 12
+
+-- "The rows area is 20 × n bytes"; "The names area is 16 × n bytes"
+abbrev pub nameWidth : ℕ
+nameWidth = 16
+
+abbrev pub rowsEnd : List ℕ → ℕ
+rowsEnd s = rowsAt s + rowWidth * taskCount s
+
+abbrev pub namesEnd : List ℕ → ℕ
+namesEnd s = namesAt s + nameWidth * taskCount s
+
+-- "an area starts before byte 16 or ends past the total"
+abbrev pub outside : ℕ → ℕ → ℕ → Bool
+outside total start end = ltb start headerWidth || ltb total end
+
+-- "the areas share a byte"
+abbrev pub overlap : ℕ → ℕ → ℕ → ℕ → Bool
+overlap a b c d = ltb a d && ltb c b
+
+-- "with gaps; every gap byte is zero": a byte after the header that is in no area
+abbrev pub inArea : ℕ → ℕ → ℕ → Bool
+inArea start end at = leb start at && ltb at end
+
+abbrev pub inGap : List ℕ → ℕ → Bool
+inGap s at = not (inArea (rowsAt s) (rowsEnd s) at) && not (inArea (namesAt s) (namesEnd s) at)

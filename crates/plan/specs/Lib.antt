@@ -1,0 +1,9 @@
+-- The plan file, in the order of document 01: limits and tasks, layout, names, refusals, and what the calls promise.
+pub mod Faults
+pub mod Words
+pub mod Tasks
+pub mod Layout
+pub mod Names
+pub mod Files
+pub mod Inner
+pub mod Promises

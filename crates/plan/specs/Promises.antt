@@ -1,0 +1,55 @@
+-- What the public calls promise, of any bytes.
+use mathlib.Core.Path.{_≡_}
+use mathlib.Core.Bool.{Bool, true, false, cond}
+use mathlib.Core.List.{List, [], _∷_, map}
+use Prim.Native.Nat.{ℕ, _+_, _-_, _*_, _≤_, _<_}
+use lib.ListN.{length, take}
+use Rattle.plan.specs.declared.record.Task.{Task}
+use Rattle.plan.specs.declared.record.Plan.{Plan}
+use Rattle.plan.specs.declared.reader.Read.{Read}
+use Rattle.plan.specs.declared.reader.Loaded.{Loaded}
+use Rattle.plan.specs.Faults.{Fault, passed}
+use Rattle.plan.specs.Tasks.{wcets, periodMins, periodMaxs, deadlineCaps, weights}
+use Rattle.plan.specs.Layout.{taskCount}
+use Rattle.plan.specs.Names.{nameStart}
+use Rattle.plan.specs.Files.{tasksFault, fileFault, accepted, tasksOf, isNamed, nameOf}
+
+-- READ: "the file to n"; "READ's n [is] 0 when refused"
+pub record Reads (s : List ℕ) (r : Read) : Type 0 where
+  pub number : r .number ≡ fileFault s .number
+  pub place : r .place ≡ fileFault s .place
+  pub tasks : r .tasks ≡ cond (accepted s) (taskCount s) 0
+
+-- NAME: the part p′ of the bytes s that stand at p, a block and an offset into it
+pub record Names (p : ℕ × ℕ) (s : List ℕ) (task : ℕ) (p′ : ℕ × ℕ) (name : List ℕ) : Type 0 where
+  pub block : p′ .0 ≡ p .0
+  pub offset : p′ .1 ≡ cond (isNamed s task) (nameStart s (task - 1)) 0 + p .1
+  pub bytes : name ≡ nameOf s task
+  pub not-empty : isNamed s task ≡ true → 0 < length name
+
+-- a plan record holds these tasks: so many, and their columns at the front of its arrays
+pub record Holds (p : Plan) (ts : List Task) : Type 0 where
+  pub count : p .tasks ≡ length ts
+  pub wcet : take (p .tasks) (p .wcet) ≡ wcets ts
+  pub periodMin : take (p .tasks) (p .«period_min») ≡ periodMins ts
+  pub periodMax : take (p .tasks) (p .«period_max») ≡ periodMaxs ts
+  pub deadlineCap : take (p .tasks) (p .«deadline_cap») ≡ deadlineCaps ts
+  pub weight : take (p .tasks) (p .weight) ≡ weights ts
+
+-- a plan loaded: the refusal, or the file's tasks
+pub record Loads (s : List ℕ) (r : Loaded) : Type 0 where
+  pub number : r .number ≡ fileFault s .number
+  pub place : r .place ≡ fileFault s .place
+  pub plan : Holds (r .plan) (cond (accepted s) (tasksOf s) [])
+
+-- a refusal with its number and place, and no task
+pub record Refuses (number place : ℕ) (r : Loaded) : Type 0 where
+  pub numbered : r .number ≡ number
+  pub placed : r .place ≡ place
+  pub empty : Holds (r .plan) []
+
+-- rules 8 to 10 alone
+pub record Decodes (s : List ℕ) (r : Loaded) : Type 0 where
+  pub number : r .number ≡ tasksFault s .number
+  pub place : r .place ≡ tasksFault s .place
+  pub plan : Holds (r .plan) (cond (passed (tasksFault s)) (tasksOf s) [])

@@ -1,0 +1,113 @@
+ghost use mathlib.Core.Path.{_≡_};
+ghost use Prim.Native.Nat.{ℕ, _+_, _*_, _≤_, _<_};
+ghost use lib.Dec.{leb};
+ghost use lib.ListN.{length, take, drop};
+ghost use Rattle.plan.specs.Faults.{faultIf};
+ghost use Rattle.plan.specs.Names.{isNameByte, allZero, nameOk, nameField, same, namedEarlier};
+ghost use Rattle.plan.specs.Files.{sameNameFault};
+ghost use Rattle.plan.specs.Inner.{AreasOf, nameLength};
+use super::layout::Areas;
+use super::words::between;
+use super::words::wide;
+
+fn is_name_byte(b: u32) -> bool
+    ensures { λ r. ⌜ r ≡ isNameByte b ⌝ }
+{
+    if between(65, b, 90) {
+        return true;
+    }
+    if between(97, b, 122) {
+        return true;
+    }
+    if between(48, b, 57) {
+        return true;
+    }
+    b == 45
+}
+
+// How many name bytes a field begins with.
+pub fn name_length(file: &[u8], at: usize) -> usize
+    requires { ⌜ at + 16 ≤ length (now file) ⌝ }
+    ensures { λ r. ⌜ (r ≡ nameLength (take 16 (drop at (now (file .entry))))) × (r ≤ 16) ⌝ }
+{
+    let mut k = 0;
+    while k < 16 {
+        if !is_name_byte(wide(file[at + k])) {
+            return k;
+        }
+        k += 1;
+    }
+    k
+}
+
+fn all_zero(file: &[u8], at: usize, n: usize) -> bool
+    requires { ⌜ at + n ≤ length (now file) ⌝ }
+    ensures { λ r. ⌜ r ≡ allZero (take n (drop at (now (file .entry)))) ⌝ }
+{
+    let mut k = 0;
+    while k < n {
+        if file[at + k] != 0 {
+            return false;
+        }
+        k += 1;
+    }
+    true
+}
+
+// Rule 10 of the field at an offset.
+pub fn name_ok(file: &[u8], at: usize) -> bool
+    requires { ⌜ at + 16 ≤ length (now file) ⌝ }
+    ensures { λ r. ⌜ r ≡ nameOk (take 16 (drop at (now (file .entry)))) ⌝ }
+{
+    let k = name_length(file, at);
+    if k == 0 {
+        return false;
+    }
+    all_zero(file, at + k, 16 - k)
+}
+
+// Whether two fields of 16 bytes are equal.
+fn same_field(file: &[u8], a: usize, b: usize) -> bool
+    requires { ⌜ (a + 16 ≤ length (now file)) × (b + 16 ≤ length (now file)) ⌝ }
+    ensures { λ r. ⌜ r ≡ same (take 16 (drop a (now (file .entry)))) (take 16 (drop b (now (file .entry)))) ⌝ }
+{
+    let mut k = 0;
+    while k < 16 {
+        if file[a + k] != file[b + k] {
+            return false;
+        }
+        k += 1;
+    }
+    true
+}
+
+fn named_earlier(file: &[u8], areas: Areas, i: usize) -> bool
+    requires { ⌜ AreasOf (now file) areas × (i < areas .tasks) ⌝ }
+    ensures { λ r. ⌜ r ≡ namedEarlier (now (file .entry)) i i ⌝ }
+{
+    let names = areas.names;
+    let mut j = 0;
+    while j < i {
+        if same_field(file, names + 16 * i, names + 16 * j) {
+            return true;
+        }
+        j += 1;
+    }
+    false
+}
+
+// Rule 11: the number of the first task whose name an earlier one has, or 0.
+pub fn repeated_name(file: &[u8], areas: Areas) -> u32
+    requires { ⌜ AreasOf (now file) areas ⌝ }
+    ensures { λ r. ⌜ sameNameFault (now (file .entry)) ≡ faultIf (leb 1 r) 11 r ⌝ }
+{
+    let n = areas.tasks;
+    let mut i = 0;
+    while i < n {
+        if named_earlier(file, areas, i) {
+            return (i + 1) as u32;
+        }
+        i += 1;
+    }
+    0
+}
