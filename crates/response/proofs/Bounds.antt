@@ -1,0 +1,64 @@
+-- Assignments within the bounds of the tasks' periods.
+use mathlib.Core.Path.{_≡_, refl, sym, ap, _∙_}
+use mathlib.Core.Bool.{true, false≢true}
+use mathlib.Core.List.{List, [], _∷_, map}
+use Prim.Native.Nat.{ℕ, suc, _≤_}
+use native.Mathlib.Omega.{arith}
+use lib.Dec.{leb}
+use lib.ListN.{length, getD, set, length-set}
+use borrow.Author.Tests.{leb-true, le-leb}
+use Rattle.plan.specs.declared.record.Task.{Task}
+use Rattle.plan.specs.Tasks.{between, periodMins, periodMaxs}
+use Rattle.response.specs.Assignments.{dominates, withinBounds}
+use Rattle.response.proofs.Tests.{and-left, and-right, and-both}
+use Rattle.response.proofs.Dominance.{AtMost, dominates-at-most, at-most-cons, at-most-set, set-at-most}
+
+pub record Within (ts : List Task) (xs : List ℕ) : Type 0 where
+  pub sized : length xs ≡ length ts
+  pub low : AtMost (periodMins ts) xs
+  pub high : AtMost xs (periodMaxs ts)
+
+pub within-true : (ts : List Task) (xs : List ℕ) → withinBounds ts xs ≡ true → Within ts xs
+within-true [] [] e = record { sized = refl; low = λ k. omega arith; high = λ k. omega arith }
+within-true [] (x ∷ xs) e = absurd (false≢true e)
+within-true (t ∷ ts) [] e = absurd (false≢true e)
+within-true (t ∷ ts) (x ∷ xs) e =
+    let b = and-left (between (t .«period_min») x (t .«period_max»)) (withinBounds ts xs) e in
+    let w = within-true ts xs (and-right (between (t .«period_min») x (t .«period_max»)) (withinBounds ts xs) e) in
+    record {
+      sized = ap suc (w .sized);
+      low = at-most-cons (t .«period_min») x (periodMins ts) xs (leb-true _ _ (and-left (leb (t .«period_min») x) (leb x (t .«period_max»)) b)) (w .low);
+      high = at-most-cons x (t .«period_max») xs (periodMaxs ts) (leb-true _ _ (and-right (leb (t .«period_min») x) (leb x (t .«period_max»)) b)) (w .high);
+    }
+
+pub true-within : (ts : List Task) (xs : List ℕ) → Within ts xs → withinBounds ts xs ≡ true
+true-within [] [] w = refl
+true-within [] (x ∷ xs) w = let z : ⊥ = omega (arith, w .sized) in absurd z
+true-within (t ∷ ts) [] w = let z : ⊥ = omega (arith, w .sized) in absurd z
+true-within (t ∷ ts) (x ∷ xs) w =
+    and-both
+    (and-both (le-leb (t .«period_min») x (w .low 0)) (le-leb x (t .«period_max») (w .high 0)))
+    (true-within ts xs (record { sized = omega (arith, w .sized); low = λ k. w .low (suc k); high = λ k. w .high (suc k) }))
+
+length-column : (f : Task → ℕ) (ts : List Task) → length (map f ts) ≡ length ts
+length-column f [] = refl
+length-column f (t ∷ ts) = ap suc (length-column f ts)
+
+-- no task has its bounds the wrong way round
+module _ (ts : List Task) (ranged : AtMost (periodMins ts) (periodMaxs ts)) where
+  pub mins-within : Within ts (periodMins ts)
+  mins-within = record { sized = length-column (λ t. t .«period_min») ts; low = λ k. omega arith; high = ranged }
+
+  pub maxs-within : Within ts (periodMaxs ts)
+  maxs-within = record { sized = length-column (λ t. t .«period_max») ts; low = ranged; high = λ k. omega arith }
+
+pub dominates-within : {ts : List Task} {xs ys : List ℕ} → Within ts xs → Within ts ys → dominates ys xs ≡ true → AtMost xs ys
+dominates-within {ts} {xs} {ys} v w e = dominates-at-most xs ys (v .sized ∙ sym (w .sized)) e
+
+-- one period raised, up to its maximum
+pub within-set : {ts : List Task} {xs : List ℕ} → Within ts xs → (i v : ℕ) → getD xs i 0 ≤ v → v ≤ getD (periodMaxs ts) i 0 → Within ts (set xs i v)
+within-set {ts} {xs} w i v p q = record {
+  sized = simp length-set (w .sized);
+  low = λ k. omega (arith, w .low k, at-most-set xs i p k);
+  high = set-at-most xs (periodMaxs ts) i (w .high) q;
+}

@@ -1,0 +1,51 @@
+-- The demand of task i by time t: it grows with t, falls as periods grow, is at least the task's own, and reads the periods above i only.
+use mathlib.Core.Path.{_≡_, refl}
+use mathlib.Core.List.{List}
+use Prim.Native.Nat.{ℕ, zero, suc, _≤_, _<_}
+use native.Mathlib.Omega.{arith}
+use native.Mathlib.Nat.{mul-le-mul-left}
+use lib.ListN.{getD}
+use Rattle.response.specs.Analysis.{Timing, ownDemand, interferenceAbove, demand}
+use Rattle.response.proofs.Ceiling.{ceiling-monotone, ceiling-antitone}
+
+module _ (T : Timing) where
+  above-monotone : (xs : List ℕ) (i s t : ℕ) → s ≤ t → interferenceAbove T xs i s ≤ interferenceAbove T xs i t
+  above-monotone xs zero s t h = omega arith
+  above-monotone xs (suc j) s t h =
+      omega
+      (arith, above-monotone xs j s t h, mul-le-mul-left (getD (T .wcet) j 0) (ceiling-monotone s t (getD xs j 0) h))
+
+  pub demand-monotone : (xs : List ℕ) (i s t : ℕ) → s ≤ t → demand T xs i s ≤ demand T xs i t
+  unfolding demand
+  demand-monotone xs i s t h = omega (arith, above-monotone xs i s t h)
+
+  above-antitone : (xs ys : List ℕ) (i t : ℕ)
+      → ((k : ℕ) → k < i → 1 ≤ getD xs k 0) → ((k : ℕ) → k < i → getD xs k 0 ≤ getD ys k 0)
+      → interferenceAbove T ys i t ≤ interferenceAbove T xs i t
+  above-antitone xs ys zero t p h = omega arith
+  above-antitone xs ys (suc j) t p h =
+      let q = ceiling-antitone t (getD xs j 0) (getD ys j 0) (p j (omega arith)) (h j (omega arith)) in
+      omega (
+        arith,
+        mul-le-mul-left (getD (T .wcet) j 0) q,
+        above-antitone xs ys j t (λ k l. p k (omega arith)) (λ k l. h k (omega arith)),
+      )
+
+  pub demand-antitone : (xs ys : List ℕ) (i t : ℕ)
+      → ((k : ℕ) → k < i → 1 ≤ getD xs k 0) → ((k : ℕ) → k < i → getD xs k 0 ≤ getD ys k 0)
+      → demand T ys i t ≤ demand T xs i t
+  unfolding demand
+  demand-antitone xs ys i t p h = omega (arith, above-antitone xs ys i t p h)
+
+  pub demand-own : (xs : List ℕ) (i t : ℕ) → ownDemand T i ≤ demand T xs i t
+  unfolding demand
+  demand-own xs i t = omega arith
+
+  above-same : (xs ys : List ℕ) (i t : ℕ) → ((k : ℕ) → k < i → getD xs k 0 ≡ getD ys k 0)
+      → interferenceAbove T xs i t ≡ interferenceAbove T ys i t
+  above-same xs ys zero t h = refl
+  above-same xs ys (suc j) t h = rw (h j (omega arith), above-same xs ys j t (λ k l. h k (omega arith)))
+
+  pub demand-same : (xs ys : List ℕ) (i t : ℕ) → ((k : ℕ) → k < i → getD xs k 0 ≡ getD ys k 0) → demand T xs i t ≡ demand T ys i t
+  unfolding demand
+  demand-same xs ys i t h = rw (above-same xs ys i t h)

@@ -1,0 +1,11 @@
+-- Laws of response-time analysis and of period assignments, by subject.
+pub mod Tests
+pub mod Ceiling
+pub mod Demand
+pub mod Exactness
+pub mod Sustainable
+pub mod Missed
+pub mod Limits
+pub mod Dominance
+pub mod Order
+pub mod Bounds

@@ -1,0 +1,40 @@
+use borrow.Author.Needs.{needs}
+use native.Mathlib.Omega.{arith}
+use mathlib.Core.Path.{ap}
+use Prim.Native.Nat.{ℕ, _*_}
+use Rattle.response.proofs.Ceiling.{ceiling-is, interference-le}
+use Rattle.response.proofs.climb.interference.Statement.{statement}
+use Rattle.response.proofs.climb.interference.Tie as tie
+
+wide-requires : tie.Need-wide-requires
+wide-requires c κs = search needs
+
+add-wide : tie.Need-add-wide
+add-wide c = search needs
+
+sub-wide : tie.Need-sub-wide
+sub-wide c = search needs
+
+div-wide : tie.Need-div-wide
+div-wide c = search needs
+
+wide-requires-2 : tie.Need-wide-requires-2
+wide-requires-2 c κs = search needs
+
+mul-result : tie.Need-mul-result
+mul-result c =
+    let a = c .before .before .args in
+    rw (c .before .wide .ensures, c .wide2 .ensures)
+    (omega (arith, interference-le (a .wcet) (a .t) (a .period) (omega arith) (omega arith) (omega arith)))
+
+returns : tie.Need-returns
+returns c =
+    let a = c .before .before .args in
+    rw (c .before .wide .ensures, c .wide2 .ensures) (
+      ap (λ (n : ℕ). a .wcet * n) (ceiling-is (a .t) (a .period) (omega arith)),
+      interference-le (a .wcet) (a .t) (a .period) (omega arith) (omega arith) (omega arith),
+    )
+
+pub interference-spec : {M : Type 1} → statement M
+interference-spec =
+    tie.close (tie.spec wide-requires add-wide sub-wide div-wide wide-requires-2 mul-result returns)

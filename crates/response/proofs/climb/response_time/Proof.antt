@@ -1,0 +1,98 @@
+use borrow.Author.Needs.{needs}
+use native.Mathlib.Omega.{arith}
+use mathlib.Core.Path.{sym}
+use Prim.Native.Nat.{suc, _-_}
+use Rattle.response.specs.Analysis.{timing}
+use Rattle.response.proofs.Exactness.{Climbs, response-past, begins, stops, passes, goes-on}
+use Rattle.response.proofs.climb.response_time.Statement.{statement}
+use Rattle.response.proofs.climb.response_time.Tie as tie
+
+abbrev Inv-loop : tie.InvT-loop
+Inv-loop wcet deadline-cap periods i deadline t₀ t = Climbs (timing wcet deadline-cap) periods i t
+
+abbrev μ-loop : tie.MeasureT-loop
+μ-loop wcet deadline-cap periods i deadline t₀ t = suc deadline - t
+
+mul-lesser : tie.Need-mul-lesser Inv-loop μ-loop
+mul-lesser c = search needs
+
+shared-slice-read-lesser : tie.Need-shared-slice-read-lesser Inv-loop μ-loop
+shared-slice-read-lesser c = search needs
+
+mul-lesser-2 : tie.Need-mul-lesser-2 Inv-loop μ-loop
+mul-lesser-2 c = search needs
+
+shared-slice-read-lesser-2 : tie.Need-shared-slice-read-lesser-2 Inv-loop μ-loop
+shared-slice-read-lesser-2 c = search needs
+
+lesser-requires : tie.Need-lesser-requires Inv-loop μ-loop
+lesser-requires c κs = search needs
+
+mul-t : tie.Need-mul-t Inv-loop μ-loop
+mul-t c = search needs
+
+shared-slice-read-t : tie.Need-shared-slice-read-t Inv-loop μ-loop
+shared-slice-read-t c = search needs
+
+returns : tie.Need-returns Inv-loop μ-loop
+returns c =
+    let a = c .before .before .before .before .before .before .before .before .args in
+    sym (response-past (timing (a .wcet .now) (a .deadline-cap .now)) (a .periods .now) (a .i) (omega arith))
+
+loop-holds : tie.Need-loop-holds Inv-loop μ-loop
+loop-holds c =
+    let a = c .before .before .before .before .before .before .before .before .args in
+    begins (timing (a .wcet .now) (a .deadline-cap .now)) (a .periods .now) (a .i) (omega arith)
+
+demand-requires : tie.Need-demand-requires Inv-loop μ-loop
+demand-requires c κs =
+    let s = c .before .before .before .before .before .before .before .before .before in
+    (s .pre .0, (s .pre .1 .0, omega (arith, s .pre .0 .most (s .args .i), c .loop .inv .within)))
+
+wide-requires : tie.Need-wide-requires Inv-loop μ-loop
+wide-requires c κs = search needs
+
+wide-requires-2 : tie.Need-wide-requires-2 Inv-loop μ-loop
+wide-requires-2 c κs = search needs
+
+cast-t : tie.Need-cast-t Inv-loop μ-loop
+cast-t c = search needs
+
+loop-less : tie.Need-loop-less Inv-loop μ-loop
+loop-less c = search needs
+
+loop-again : tie.Need-loop-again Inv-loop μ-loop
+loop-again c =
+    goes-on (c .before .before .before .before .before .loop .inv) (c .before .before .before .before .demand .ensures _) (omega arith) (omega arith)
+
+returns-2 : tie.Need-returns-2 Inv-loop μ-loop
+returns-2 c =
+    stops (c .before .before .before .loop .inv) (c .before .before .demand .ensures _) (omega arith)
+
+returns-3 : tie.Need-returns-3 Inv-loop μ-loop
+returns-3 c =
+    passes (c .before .before .before .before .before .loop .inv) (c .before .before .before .before .demand .ensures _) (omega arith)
+
+pub response-time-spec : {M : Type 1} → statement M
+response-time-spec =
+    tie.close
+    (tie.spec
+    Inv-loop
+    μ-loop
+    mul-lesser
+    shared-slice-read-lesser
+    mul-lesser-2
+    shared-slice-read-lesser-2
+    lesser-requires
+    mul-t
+    shared-slice-read-t
+    returns
+    loop-holds
+    demand-requires
+    wide-requires
+    wide-requires-2
+    cast-t
+    loop-less
+    loop-again
+    returns-2
+    returns-3)

@@ -1,0 +1,5 @@
+-- Response-time analysis at given periods, in the order of document 01.
+pub mod Analysis
+pub mod Assignments
+pub mod Claims
+pub mod Inner

@@ -1,0 +1,72 @@
+ghost use mathlib.Core.Path.{_≡_};
+ghost use mathlib.Core.List.{List};
+ghost use Prim.Native.Nat.{ℕ, _+_, _*_, _≤_, _<_, min};
+ghost use lib.ListN.{length};
+ghost use Rattle.plan.specs.Tasks.{maxTicks};
+ghost use Rattle.response.specs.Analysis.{timing, ceiling, demand, responseTime, meets};
+ghost use Rattle.response.specs.Inner.{Limits};
+
+fn wide(x: u32) -> u64
+    ensures { λ r. ⌜ r ≡ x ⌝ }
+{
+    x as u64
+}
+
+fn lesser(a: u32, b: u32) -> u32
+    ensures { λ r. ⌜ r ≡ min a b ⌝ }
+{
+    if a < b { a } else { b }
+}
+
+// What one task above demands by t.
+fn interference(wcet: u32, period: u32, t: u32) -> u64
+    requires { ⌜ (wcet ≤ maxTicks) × (((1 ≤ period) × (period ≤ maxTicks)) × (t ≤ maxTicks)) ⌝ }
+    ensures { λ r. ⌜ (r ≡ wcet * ceiling t period) × (r ≤ 2 * maxTicks * maxTicks) ⌝ }
+{
+    wide(wcet) * wide((t + period - 1) / period)
+}
+
+// What task i and the tasks above it demand by t; the caps have no part in it.
+fn demand(wcet: &[u32], periods: &[u32], i: usize, t: u32) -> u64
+    requires { ⌜ (Limits (now wcet) (now periods)) × ((i < length (now wcet)) × (t ≤ maxTicks)) ⌝ }
+    ensures { λ r. ⌜ ((caps : List ℕ) → r ≡ demand (timing (now (wcet .entry)) caps) (now (periods .entry)) i t) ⌝ }
+{
+    let mut sum = wide(wcet[i]);
+    let mut j: usize = 0;
+    while j < i {
+        sum += interference(wcet[j], periods[j], t);
+        j += 1;
+    }
+    sum
+}
+
+// The least t that covers the demand of task i by t, 0 past its deadline.
+pub fn response_time(wcet: &[u32], deadline_cap: &[u32], periods: &[u32], i: usize) -> u32
+    requires { ⌜ (Limits (now wcet) (now periods)) × ((i < length (now wcet)) × (i < length (now «deadline_cap»))) ⌝ }
+    ensures { λ r. ⌜ r ≡ responseTime (timing (now (wcet .entry)) (now («deadline_cap» .entry))) (now (periods .entry)) i ⌝ }
+{
+    let deadline = lesser(periods[i], deadline_cap[i]);
+    let mut t = wcet[i];
+    if deadline < t {
+        return 0;
+    }
+    let r = loop {
+        let m = demand(wcet, periods, i, t);
+        if m <= wide(t) {
+            break t;
+        }
+        if wide(deadline) < m {
+            break 0;
+        }
+        t = m as u32;
+    };
+    r
+}
+
+// Whether task i meets its deadline.
+pub fn meets_deadline(wcet: &[u32], deadline_cap: &[u32], periods: &[u32], i: usize) -> bool
+    requires { ⌜ (Limits (now wcet) (now periods)) × ((i < length (now wcet)) × (i < length (now «deadline_cap»))) ⌝ }
+    ensures { λ r. ⌜ r ≡ meets (timing (now (wcet .entry)) (now («deadline_cap» .entry))) (now (periods .entry)) i ⌝ }
+{
+    1 <= response_time(wcet, deadline_cap, periods, i)
+}
