@@ -76,3 +76,14 @@ pub run-none : (f : ℕ → Fault) (left i : ℕ) → firstFrom f left i .number
 unfolding firstFrom
 run-none f zero i e = refl
 run-none f (suc left) i e = or-next (f i) _ (or-first (f i) (firstFrom f left (suc i)) e) ∙ run-none f left (suc i) (or-second (f i) (firstFrom f left (suc i)) e)
+
+-- a run with a fault: it is that of one of its rules
+pub run-some : (f : ℕ → Fault) (left i : ℕ) → (firstFrom f left i .number ≡ 0 → ⊥) → (k : ℕ) × ((k < i + left) × (firstFrom f left i ≡ f k))
+unfolding firstFrom
+run-some f zero i h = absurd (h refl)
+run-some f (suc left) i h = elim (eq-or-ne (f i .number) 0) [
+  | inr z ↦ (i, (omega arith, or-here (f i) _ z))
+  | inl z ↦ let e = or-next (f i) (firstFrom f left (suc i)) z in
+      let r = run-some f left (suc i) (λ y. h (ap (λ g. g .number) e ∙ y)) in
+      (r .0, (omega (arith, r .1 .0), e ∙ r .1 .1))
+]

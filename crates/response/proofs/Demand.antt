@@ -5,7 +5,7 @@ use Prim.Native.Nat.{ℕ, zero, suc, _≤_, _<_}
 use native.Mathlib.Omega.{arith}
 use native.Mathlib.Nat.{mul-le-mul-left}
 use lib.ListN.{getD}
-use Rattle.response.specs.Analysis.{Timing, ownDemand, interferenceAbove, demand}
+use Rattle.response.specs.Analysis.{Timing, ceiling, ownDemand, interferenceAbove, demand}
 use Rattle.response.proofs.Ceiling.{ceiling-monotone, ceiling-antitone}
 
 module _ (T : Timing) where
@@ -19,23 +19,23 @@ module _ (T : Timing) where
   unfolding demand
   demand-monotone xs i s t h = omega (arith, above-monotone xs i s t h)
 
-  above-antitone : (xs ys : List ℕ) (i t : ℕ)
-      → ((k : ℕ) → k < i → 1 ≤ getD xs k 0) → ((k : ℕ) → k < i → getD xs k 0 ≤ getD ys k 0)
+  above-less : (xs ys : List ℕ) (i t : ℕ) → ((k : ℕ) → k < i → ceiling t (getD ys k 0) ≤ ceiling t (getD xs k 0))
       → interferenceAbove T ys i t ≤ interferenceAbove T xs i t
-  above-antitone xs ys zero t p h = omega arith
-  above-antitone xs ys (suc j) t p h =
-      let q = ceiling-antitone t (getD xs j 0) (getD ys j 0) (p j (omega arith)) (h j (omega arith)) in
-      omega (
-        arith,
-        mul-le-mul-left (getD (T .wcet) j 0) q,
-        above-antitone xs ys j t (λ k l. p k (omega arith)) (λ k l. h k (omega arith)),
-      )
+  above-less xs ys zero t h = omega arith
+  above-less xs ys (suc j) t h =
+      omega
+      (arith, mul-le-mul-left (getD (T .wcet) j 0) (h j (omega arith)), above-less xs ys j t (λ k l. h k (omega arith)))
+
+  -- no task above runs more often
+  pub demand-less : (xs ys : List ℕ) (i t : ℕ) → ((k : ℕ) → k < i → ceiling t (getD ys k 0) ≤ ceiling t (getD xs k 0))
+      → demand T ys i t ≤ demand T xs i t
+  unfolding demand
+  demand-less xs ys i t h = omega (arith, above-less xs ys i t h)
 
   pub demand-antitone : (xs ys : List ℕ) (i t : ℕ)
       → ((k : ℕ) → k < i → 1 ≤ getD xs k 0) → ((k : ℕ) → k < i → getD xs k 0 ≤ getD ys k 0)
       → demand T ys i t ≤ demand T xs i t
-  unfolding demand
-  demand-antitone xs ys i t p h = omega (arith, above-antitone xs ys i t p h)
+  demand-antitone xs ys i t p h = demand-less xs ys i t (λ k l. ceiling-antitone t (getD xs k 0) (getD ys k 0) (p k l) (h k l))
 
   pub demand-own : (xs : List ℕ) (i t : ℕ) → ownDemand T i ≤ demand T xs i t
   unfolding demand

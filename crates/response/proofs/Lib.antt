@@ -9,3 +9,7 @@ pub mod Limits
 pub mod Dominance
 pub mod Order
 pub mod Bounds
+pub mod Plans
+mod Answers
+mod Refusals
+pub mod Examples

@@ -3,3 +3,4 @@ pub mod Analysis
 pub mod Assignments
 pub mod Claims
 pub mod Inner
+pub mod Promises

@@ -1,5 +1,10 @@
 // Response-time analysis at given periods.
+mod schedulability; // schedulability.rt: all tasks at once
 mod climb; // climb.rt: demand and response time of one task
+mod times; // times.rt: TIMES
 
 pub use climb::meets_deadline;
+pub use schedulability::{first_missed, is_schedulable};
 pub use climb::response_time;
+pub use times::Times;
+pub use times::response_times;

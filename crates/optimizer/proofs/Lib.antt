@@ -1,0 +1,14 @@
+-- Laws by subject.
+pub mod Multiset
+pub mod Steps
+pub mod Optimal
+pub mod Counting
+pub mod Rounds
+pub mod Maximal
+pub mod OnePeriod
+pub mod Raising
+pub mod Branching
+pub mod Guarantees
+pub mod Running
+pub mod Settled
+pub mod Examples

@@ -1,0 +1,104 @@
+use borrow.Author.Needs.{needs}
+use native.Mathlib.Omega.{arith}
+use mathlib.Core.Path.{sym, _∙_}
+use mathlib.Core.Logic.{⊎-elim}
+use Prim.Native.Nat.{_+_, _-_, _≤_}
+use Rattle.response.specs.Analysis.{timing}
+use Rattle.optimizer.proofs.Raising.{columns-inside, Probing, probing-start, probing-limits, probing-response, probing-miss, probing-meet, probing-end}
+use Rattle.plan.specs.Tasks.{maxTicks}
+use Rattle.optimizer.proofs.OnePeriod.{ceiling-some, ceiling-upto}
+use Rattle.optimizer.proofs.mua.last_miss.Statement.{statement}
+use Rattle.optimizer.proofs.mua.last_miss.Tie as tie
+
+abbrev Inv-loop : tie.InvT-loop
+Inv-loop wcet deadline-cap u₀ i k low most last₀ high₀ turn₀ u last high turn = Probing (timing wcet deadline-cap) u₀ i k low most u last high turn
+
+abbrev μ-loop : tie.MeasureT-loop
+μ-loop wcet deadline-cap u₀ i k low most last₀ high₀ turn₀ u last high turn = most + 1 - turn
+
+add-high : tie.Need-add-high Inv-loop μ-loop
+add-high c = search needs
+
+loop-holds : tie.Need-loop-holds Inv-loop μ-loop
+loop-holds c = let p = c .before .before .before .pre in probing-start (p .0) (p .1)
+
+add-loop : tie.Need-add-loop Inv-loop μ-loop
+add-loop c = search needs
+
+probe-requires : tie.Need-probe-requires Inv-loop μ-loop
+probe-requires c κs = search needs
+
+mul-u : tie.Need-mul-u Inv-loop μ-loop
+mul-u c = search needs
+
+slice-write-u : tie.Need-slice-write-u Inv-loop μ-loop
+slice-write-u c = search needs
+
+response-time-requires : tie.Need-response-time-requires Inv-loop μ-loop
+response-time-requires c κs =
+    let p = c .before .before .before .before .before .before .before .pre in
+    (probing-limits (p .0) (p .1) (c .before .before .before .loop .inv) (c .before .probe .ensures), columns-inside (p .0 .columns) (p .1 .1))
+
+responds : (c : tie.Else1 Inv-loop μ-loop) → c .before .response-time .result ≤ maxTicks
+responds c =
+    let p = c .before .before .before .before .before .before .before .before .before .pre in
+    probing-response (p .0) (p .1) (c .before .before .before .before .before .loop .inv) (c .before .before .before .probe .ensures) (c .before .response-time .ensures)
+
+rounded-up-requires : tie.Need-rounded-up-requires Inv-loop μ-loop
+rounded-up-requires c κs =
+    let g = c .before .before .before .before .before .loop .inv in
+    (responds c, (omega arith, omega (arith, g .under)))
+
+rounded-up-requires-2 : tie.Need-rounded-up-requires-2 Inv-loop μ-loop
+rounded-up-requires-2 c κs =
+    let r = c .before .before .response-time .result in
+    let p = c .before .before .before .before .probe .result in
+    let l = responds (c .before) in
+    rw (c .rounded-up .ensures) (l, (ceiling-some r p (omega arith) (omega arith), omega (arith, ceiling-upto r p (omega arith))))
+
+add-turn : tie.Need-add-turn Inv-loop μ-loop
+add-turn c = search needs
+
+loop-less : tie.Need-loop-less Inv-loop μ-loop
+loop-less c = omega (arith, c .before .before .before .before .before .loop .inv .turns)
+
+loop-again : tie.Need-loop-again Inv-loop μ-loop
+loop-again c =
+    let q = c .before .before .before .before .before .before .before .before .before .pre in
+    let g = c .before .before .before .before .before .loop .inv in
+    let p = c .before .before .before .probe in
+    let e = c .before .response-time .ensures in
+    ⊎-elim
+    (λ w. rw (w .1, w .2) (probing-miss (q .0) (q .1) g (p .ensures) e (w .0 .taken)))
+    (λ w. rw (w .3, w .4, w .2 .ensures, w .1 .ensures) (probing-meet (q .0) (q .1) g (p .ensures) e (omega arith)))
+    (c .if1 .came)
+
+same-length : tie.Need-same-length Inv-loop μ-loop
+same-length c = c .before .loop .inv .moved .limits .sized ∙ sym (c .before .before .before .before .before .pre .0 .columns .limits .sized)
+
+returns : tie.Need-returns Inv-loop μ-loop
+returns c =
+    let p = c .before .before .before .before .before .pre in
+    let g = c .before .loop .inv in
+    (probing-end (p .0) (p .1) g (omega arith), g .moved)
+
+pub last-miss-spec : {M : Type 1} → statement M
+last-miss-spec =
+    tie.close
+    (tie.spec
+    Inv-loop
+    μ-loop
+    add-high
+    loop-holds
+    add-loop
+    probe-requires
+    mul-u
+    slice-write-u
+    response-time-requires
+    rounded-up-requires
+    rounded-up-requires-2
+    add-turn
+    loop-less
+    loop-again
+    same-length
+    returns)

@@ -1,0 +1,7 @@
+-- The step rule of CHEAPEST, in the order of document 01.
+pub mod Nodes
+pub mod Rule
+pub mod Search
+pub mod Mua
+pub mod Claims
+pub mod Promises

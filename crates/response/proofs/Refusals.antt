@@ -1,0 +1,101 @@
+-- TIMES: from its rules in their order to its answer.
+use mathlib.Core.Path.{_≡_, refl, sym, ap, _∙_}
+use mathlib.Core.Bool.{true, false, not, false≢true}
+use mathlib.Core.Logic.{inl, inr}
+use mathlib.Core.List.{List, [], _∷_}
+use Prim.Native.Nat.{ℕ, suc, _+_, _-_, _≤_, _<_}
+use native.Mathlib.Omega.{arith}
+use lib.Dec.{eqb, leb}
+use lib.ListN.{length, getD, length-map, List·getD-eq-default}
+use borrow.Author.Tests.{eq-eqb, ne-eqb, leb-true, le-leb, not-false}
+use Rattle.plan.specs.declared.record.Task.{Task}
+use Rattle.plan.specs.Faults.{fault, none, faultIf, firstFault, firstFrom}
+use Rattle.plan.specs.Tasks.{between, periodMins, periodMaxs}
+use Rattle.plan.specs.Layout.{taskCount}
+use Rattle.plan.specs.Files.{fileFault, accepted, tasksOf}
+use Rattle.plan.proofs.Rules.{or-next, or-here, if-passed, run-if, run-next, run-passed, and-left, and-right}
+use Rattle.plan.proofs.Accepted.{AllSane, accepted-sane, tasks-length}
+use Rattle.response.specs.declared.times.Times.{Times}
+use Rattle.response.specs.Analysis.{timingOf, missedCount, firstMissed}
+use Rattle.response.specs.Promises.{periodsFault, spaceFault, boundFault, boundsFault, timesFault, timesOf, Analyses}
+use Rattle.response.proofs.Tests.{le-or-lt, both}
+use Rattle.response.proofs.Dominance.{AtMost}
+use Rattle.response.proofs.Bounds.{Within}
+use Rattle.response.proofs.Exactness.{response-exact}
+use Rattle.response.proofs.Plans.{sane-at}
+use Rattle.response.proofs.Answers.{times-at}
+
+-- the run of rule 23 stands at task i: its period is outside its bounds, or the run goes on
+module _ (mins maxs xs : List ℕ) where
+  abbrev pub BoundsFrom : ℕ → Type 0
+  BoundsFrom i = firstFrom (boundFault mins maxs xs) (length xs) 0 ≡ firstFrom (boundFault mins maxs xs) (length xs - i) i
+
+  module _ (i : ℕ) (l : i < length xs) (so-far : BoundsFrom i) where
+    pub bound-broken : between (getD mins i 0) (getD xs i 0) (getD maxs i 0) ≡ false
+        → firstFrom (boundFault mins maxs xs) (length xs) 0 ≡ faultIf (leb 1 (i + 1)) 23 (i + 1)
+    bound-broken e =
+        let a : suc i ≡ i + 1 = omega arith in
+        rw (le-leb 1 (i + 1) (omega arith))
+        (so-far ∙ run-if (boundFault mins maxs xs) (length xs) i 22 (i + 1) l (rw (e, a)))
+
+    pub bound-kept : between (getD mins i 0) (getD xs i 0) (getD maxs i 0) ≡ true → BoundsFrom (i + 1)
+    bound-kept e = so-far ∙ run-next (boundFault mins maxs xs) (length xs) i l (rw e)
+
+-- no period outside its bounds
+pub bounds-within : (ts : List Task) (xs : List ℕ) → length xs ≡ length ts → boundsFault ts xs .number ≡ 0 → Within ts xs
+bounds-within ts xs n e = record { sized = n; low = λ k. at k .0; high = λ k. at k .1 } where
+  at : (k : ℕ) → (getD (periodMins ts) k 0 ≤ getD xs k 0) × (getD xs k 0 ≤ getD (periodMaxs ts) k 0)
+  at k = elim (le-or-lt (length ts) k) [
+    | inl o ↦ let a = List·getD-eq-default (periodMins ts) 0 {n = k} (rw (length-map ts (λ t. t .«period_min»)) o) in let b = List·getD-eq-default xs 0 {n = k} (rw n o) in (omega arith, omega arith)
+    | inr h ↦ let l : ℕ = getD (periodMins ts) k 0 in let x : ℕ = getD xs k 0 in let u : ℕ = getD (periodMaxs ts) k 0 in
+        let b = not-false (between l x u) (if-passed (not (between l x u)) 22 (suc k) (run-passed (boundFault (periodMins ts) (periodMaxs ts) xs) (length ts) 0 e k (omega arith) (omega arith))) in
+        (leb-true l x (and-left (leb l x) (leb x u) b), leb-true x u (and-right (leb l x) (leb x u) b))
+  ]
+
+module _ (s xs o : List ℕ) where
+  -- the first rule that is broken
+  pub at-file : (fileFault s .number ≡ 0 → ⊥) → timesFault s xs (length o) ≡ fileFault s
+  unfolding timesFault
+  at-file h = or-here (fileFault s) _ h
+
+  module _ (f : fileFault s .number ≡ 0) where
+    pub at-periods : (length xs ≡ taskCount s → ⊥) → timesFault s xs (length o) ≡ fault 21 0
+    unfolding timesFault
+    at-periods h = or-next (fileFault s) _ f ∙ rw (ne-eqb (length xs) (taskCount s) h)
+
+    module _ (n : length xs ≡ taskCount s) where
+      pub at-space : (length o ≡ taskCount s → ⊥) → timesFault s xs (length o) ≡ fault 22 0
+      unfolding timesFault
+      at-space h = or-next (fileFault s) _ f ∙ rw (eq-eqb (length xs) (taskCount s) n, ne-eqb (length o) (taskCount s) h)
+
+      pub at-bounds : length o ≡ taskCount s → timesFault s xs (length o) ≡ firstFault (boundsFault (tasksOf s) xs ∷ [])
+      unfolding timesFault
+      at-bounds h = or-next (fileFault s) _ f ∙ rw (eq-eqb (length xs) (taskCount s) n, eq-eqb (length o) (taskCount s) h)
+
+  pub refuses : (n p : ℕ) (r : Times) → timesFault s xs (length o) ≡ fault n p → (n ≡ 0 → ⊥)
+      → r ≡ record { number = n; place = p; missed = 0; first = 0 } → Analyses s xs o o r
+  refuses n p r e h f =
+      let b = ne-eqb n 0 h in
+      rw f
+      (record {
+        number = rw e;
+        place = rw e;
+        missed = rw (e, b);
+        first = rw (e, b);
+        times = rw (e, b);
+        exact = λ t i l. absurd (both (rw e at t) b);
+      })
+
+  pub analyses : (o′ : List ℕ) (r : Times) → timesFault s xs (length o) ≡ none → accepted s ≡ true → o′ ≡ timesOf s xs
+      → r .number ≡ 0 → r .place ≡ 0 → r .missed ≡ missedCount o′ → r .first ≡ firstMissed o′ → Analyses s xs o o′ r
+  analyses o′ r e a w n p m k =
+      record {
+        number = rw e n;
+        place = rw e p;
+        missed = rw e (m ∙ ap missedCount w);
+        first = rw e (k ∙ ap firstMissed w);
+        times = rw e w;
+        exact = λ t i l. let h : i < length (tasksOf s) = rw (tasks-length s) l in
+            let g : i < length (timingOf (tasksOf s) .wcet) = rw (length-map (tasksOf s) (λ t. t .wcet)) h in
+            rw (w, times-at (timingOf (tasksOf s)) xs i g) (response-exact (timingOf (tasksOf s)) xs i (sane-at (accepted-sane s a) i .wcet-some h));
+      }

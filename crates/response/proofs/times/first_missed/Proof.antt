@@ -1,0 +1,72 @@
+use mathlib.Core.Path.{_≡_, refl, sym, _∙_}
+use mathlib.Core.List.{List}
+use Prim.Native.Nat.{ℕ, _+_, _-_, _≤_}
+use borrow.Author.Needs.{needs}
+use native.Mathlib.Omega.{arith}
+use lib.ListN.{length, drop, drop-of-length-le}
+use Rattle.response.specs.Analysis.{firstMissedFrom, firstMissed}
+use Rattle.response.proofs.Answers.{search-miss, search-meet}
+use Rattle.response.proofs.times.first_missed.Statement.{statement}
+use Rattle.response.proofs.times.first_missed.Tie as tie
+
+abbrev Inv-loop : tie.InvT-loop
+Inv-loop times i₀ i = firstMissed times ≡ firstMissedFrom (i + 1) (drop i times)
+
+abbrev μ-loop : tie.MeasureT-loop
+μ-loop times i₀ i = length times - i
+
+loop-holds : tie.Need-loop-holds Inv-loop μ-loop
+loop-holds c = refl
+
+mul-if1 : tie.Need-mul-if1 Inv-loop μ-loop
+mul-if1 c = search needs
+
+shared-slice-read-if1 : tie.Need-shared-slice-read-if1 Inv-loop μ-loop
+shared-slice-read-if1 c = search needs
+
+add-result : tie.Need-add-result Inv-loop μ-loop
+add-result c = search needs
+
+cast-result : tie.Need-cast-result Inv-loop μ-loop
+cast-result c = search needs
+
+returns : tie.Need-returns Inv-loop μ-loop
+returns c =
+    let rs : List ℕ = c .before .before .before .before .args .times .now in
+    let i : ℕ = c .before .before .before .loop .i in
+    sym (c .before .before .before .loop .inv ∙ search-miss rs i (omega arith) (c .if1 .taken))
+
+add-i : tie.Need-add-i Inv-loop μ-loop
+add-i c = search needs
+
+loop-less : tie.Need-loop-less Inv-loop μ-loop
+loop-less c = search needs
+
+loop-again : tie.Need-loop-again Inv-loop μ-loop
+loop-again c =
+    let rs : List ℕ = c .before .before .before .before .args .times .now in
+    let i : ℕ = c .before .before .before .loop .i in
+    c .before .before .before .loop .inv ∙ search-meet rs i (omega arith) (c .if1 .left)
+
+returns-2 : tie.Need-returns-2 Inv-loop μ-loop
+returns-2 c =
+    let rs : List ℕ = c .before .before .args .times .now in
+    let e = drop-of-length-le rs {i = c .before .loop .i} (omega arith) in
+    sym (rw e at (c .before .loop .inv))
+
+pub first-missed-spec : {M : Type 1} → statement M
+first-missed-spec =
+    tie.close
+    (tie.spec
+    Inv-loop
+    μ-loop
+    loop-holds
+    mul-if1
+    shared-slice-read-if1
+    add-result
+    cast-result
+    returns
+    add-i
+    loop-less
+    loop-again
+    returns-2)
