@@ -11,4 +11,12 @@ pub mod Branching
 pub mod Guarantees
 pub mod Running
 pub mod Settled
+mod Needed
+mod Fill
+mod Space
+mod Scans
+mod Drop
+mod Branch
+mod Looping
+mod Concluding
 pub mod Examples

@@ -13,6 +13,7 @@ use Rattle.response.specs.Assignments.{cost, less, withinBounds, assignmentCoun
 pub record Feasible (ts : List Task) (xs : List ℕ) : Type 0 where
   pub bounded : withinBounds ts xs ≡ true
   pub met : schedulable (timingOf ts) xs ≡ true
+
 pub record Settles (ts : List Task) (budget room number price rounds bound : ℕ) (xs : List ℕ) : Type 0 where
   -- "What CHEAPEST answers is an on-time timetable within the bounds and that timetable's cost"
   pub answered : number ≡ 0 → Feasible ts xs × (price ≡ cost (weights ts) xs)

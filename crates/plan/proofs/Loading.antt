@@ -3,7 +3,7 @@ use mathlib.Core.Path.{_≡_, refl, sym, ap, _∙_}
 use mathlib.Core.Bool.{Bool, true, false, _&&_, _||_, not, cond, false≢true}
 use mathlib.Core.Logic.{inl, inr}
 use mathlib.Core.List.{List, [], _∷_}
-use Prim.Native.Nat.{ℕ, suc, _≤_}
+use Prim.Native.Nat.{ℕ, suc, _-_, _≤_}
 use native.Mathlib.Omega.{arith}
 use lib.Dec.{eqb, ltb, leb}
 use lib.ListN.{length}
@@ -12,12 +12,13 @@ use Rattle.plan.specs.declared.layout.Areas.{Areas}
 use Rattle.plan.specs.declared.layout.Layout.the-variants.{Located, Broken}
 use Rattle.plan.specs.declared.reader.Loaded.{Loaded}
 use Rattle.plan.specs.Faults.{Fault, fault, none, faultIf, passed, orElse, firstFault}
-use Rattle.plan.specs.Tasks.{between}
-use Rattle.plan.specs.Layout.{taskCount, rowsAt, rowsEnd, namesAt, namesEnd, outside}
-use Rattle.plan.specs.Files.{lengthFault, versionFault, countFault, totalFault, rowsFault, namesFault, overlapFault, layoutFault, gapFault, taskFault, tasksFault, sameNameFault, fileFault, accepted, tasksOf}
+use Rattle.plan.specs.Tasks.{between, withinLimits}
+use Rattle.plan.specs.Layout.{version, taskCount, totalLength, rowsAt, rowsEnd, namesAt, namesEnd, outside, overlap}
+use Rattle.plan.specs.Names.{nameField, nameOk, namedEarlier}
+use Rattle.plan.specs.Files.{lengthFault, versionFault, countFault, totalFault, rowsFault, namesFault, overlapFault, layoutFault, isStray, strayFault, gapFault, taskOf, rowFault, taskFault, tasksFault, repeatFault, sameNameFault, fileFault, accepted, tasksOf}
 use Rattle.plan.specs.Inner.{areasOf, laidOut, layoutNumber, layoutPlace, AreasOf}
 use Rattle.plan.specs.Promises.{Refuses, Decodes, Loads}
-use Rattle.plan.proofs.Rules.{bool, or-next, or-here, or-first, or-second, if-passed, and-left, and-right, run-none}
+use Rattle.plan.proofs.Rules.{bool, or-next, or-here, or-first, or-second, if-passed, and-left, and-right, run-none, if-le, or-le, run-le}
 
 or-left : (a b : Bool) → (a || b) ≡ false → a ≡ false
 or-left true b e = e
@@ -93,3 +94,32 @@ module _ (s : List ℕ) where
   loads-all r e t d =
       let q = run-none (taskFault s) (taskCount s) 0 t in
       record { number = d .number ∙ t ∙ sym (ap (λ g. g .number) e); place = d .place ∙ ap (λ g. g .place) q ∙ sym (ap (λ g. g .place) e); plan = rw e (rw (eq-eqb (tasksFault s .number) 0 t) at (d .plan)) }
+
+-- the file's own rules have the numbers up to 11
+small : (b : Bool) (n p : ℕ) → n ≤ 11 → faultIf b n p .number ≤ 11
+small b n p h = if-le b n p 11 h
+
+layout-small : (s : List ℕ) → layoutFault s .number ≤ 11
+layout-small s =
+    or-le (lengthFault s) _ 11 (small (not (between 16 (length s) 2048)) 1 0 (omega arith))
+    (or-le (versionFault s) _ 11 (small (not (eqb (version s) 1)) 2 0 (omega arith))
+    (or-le (countFault s) _ 11 (small (not (between 1 (taskCount s) 16)) 3 0 (omega arith))
+    (or-le (totalFault s) _ 11 (small (not (eqb (totalLength s) (length s))) 4 0 (omega arith))
+    (or-le (rowsFault s) _ 11 (small (outside (length s) (rowsAt s) (rowsEnd s)) 5 1 (omega arith))
+    (or-le (namesFault s) _ 11 (small (outside (length s) (namesAt s) (namesEnd s)) 5 2 (omega arith))
+    (or-le (overlapFault s) none 11 (small (overlap (rowsAt s) (rowsEnd s) (namesAt s) (namesEnd s)) 6 0 (omega arith)) (omega arith)))))))
+
+task-small : (s : List ℕ) (i : ℕ) → taskFault s i .number ≤ 11
+task-small s i =
+    let t = taskOf s i in let f8 = faultIf (not (withinLimits t)) 8 (suc i) in let f9 = faultIf (ltb (t .«period_max») (t .«period_min»)) 9 (suc i) in
+    or-le (rowFault t i) (faultIf (not (nameOk (nameField s i))) 10 (suc i)) 11
+    (or-le f8 f9 11 (small (not (withinLimits t)) 8 (suc i) (omega arith)) (small (ltb (t .«period_max») (t .«period_min»)) 9 (suc i) (omega arith)))
+    (small (not (nameOk (nameField s i))) 10 (suc i) (omega arith))
+
+pub file-number : (s : List ℕ) → fileFault s .number ≤ 11
+unfolding fileFault
+file-number s =
+    or-le (layoutFault s) _ 11 (layout-small s)
+    (or-le (gapFault s) _ 11 (run-le (strayFault s) 11 (λ at. small (isStray s at) 7 at (omega arith)) (length s - 16) 16)
+    (or-le (tasksFault s) _ 11 (run-le (taskFault s) 11 (task-small s) (taskCount s) 0)
+    (or-le (sameNameFault s) none 11 (run-le (repeatFault s) 11 (λ i. small (namedEarlier s i i) 11 (suc i) (omega arith)) (taskCount s) 0) (omega arith))))

@@ -87,3 +87,16 @@ run-some f (suc left) i h = elim (eq-or-ne (f i .number) 0) [
       let r = run-some f left (suc i) (λ y. h (ap (λ g. g .number) e ∙ y)) in
       (r .0, (omega (arith, r .1 .0), e ∙ r .1 .1))
 ]
+
+-- how large a refusal's number can be
+pub if-le : (b : Bool) (n p k : ℕ) → n ≤ k → faultIf b n p .number ≤ k
+if-le true n p k h = h
+if-le false n p k h = omega arith
+
+pub or-le : (f g : Fault) (k : ℕ) → f .number ≤ k → g .number ≤ k → orElse f g .number ≤ k
+or-le f g k a b = elim (eq-or-ne (f .number) 0) [ inl z ↦ rw (or-next f g z) b | inr z ↦ rw (or-here f g z) a ]
+
+pub run-le : (f : ℕ → Fault) (k : ℕ) → ((i : ℕ) → f i .number ≤ k) → (left i : ℕ) → firstFrom f left i .number ≤ k
+unfolding firstFrom
+run-le f k h zero i = omega arith
+run-le f k h (suc left) i = or-le (f i) (firstFrom f left (suc i)) k (h i) (run-le f k h left (suc i))

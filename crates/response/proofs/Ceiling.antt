@@ -2,8 +2,7 @@
 use mathlib.Core.Path.{_≡_, ap}
 use Prim.Native.Nat.{ℕ, zero, suc, _+_, _-_, _*_, _/_, _≤_, _<_}
 use native.Mathlib.Omega.{arith}
-use native.Mathlib.Nat.{le-trans, mul-le-mul, mul-le-mul-left, div-le-self, div-lt-iff-lt-mul, lt-div-mul-add}
-use Rattle.plan.specs.Tasks.{maxTicks}
+use native.Mathlib.Nat.{le-trans, mul-le-mul-left, div-lt-iff-lt-mul, lt-div-mul-add}
 use Rattle.response.specs.Analysis.{ceiling}
 
 pub ceiling-le : (a p k : ℕ) → a ≤ k * suc p → ceiling a (suc p) ≤ k
@@ -26,11 +25,7 @@ ceiling-antitone a (suc p) zero h l = omega arith
 ceiling-antitone a (suc p) (suc q) h l =
     ceiling-le a q (ceiling a (suc p)) (le-trans (le-ceiling a p) (mul-le-mul-left (ceiling a (suc p)) l))
 
--- as the code computes it, and that it does not wrap
+-- as the code computes it
 pub ceiling-is : (a p : ℕ) → 1 ≤ p → (a + p - 1) / p ≡ ceiling a p
 ceiling-is a zero h = absurd (let z : ⊥ = omega arith in z)
 ceiling-is a (suc p) h = let e : a + suc p - 1 ≡ a + p = omega arith in ap (λ (n : ℕ). n / suc p) e
-
-pub interference-le : (c t p : ℕ) → c ≤ maxTicks → p ≤ maxTicks → t ≤ maxTicks → c * ((t + p - 1) / p) ≤ 2 * maxTicks * maxTicks
-interference-le c t p hc hp ht =
-    mul-le-mul {n₁ = c} {m₁ = (t + p - 1) / p} {n₂ = 1000000} {m₂ = 2000000} hc (le-trans (div-le-self (t + p - 1) p) (omega arith))

@@ -10,6 +10,6 @@ pub mod Dominance
 pub mod Order
 pub mod Bounds
 pub mod Plans
-mod Answers
+pub mod Answers
 mod Refusals
 pub mod Examples

@@ -122,7 +122,7 @@ columns {p} {ts} h =
       deadlineCap = fits (λ t. t .«deadline_cap») (p .«deadline_cap») (h .deadlineCap);
       weight = fits (λ t. t .weight) (p .weight) (h .weight);
     } where
-  fits : (f : Task → ℕ) (column : List ℕ) → take (p .tasks) column ≡ map f ts → Fits (p .tasks) column
-  fits f column e =
-      let n : length (take (p .tasks) column) ≡ p .tasks = ap length e ∙ length-map ts f ∙ sym (h .count) in
-      (n, omega (arith, length-take (p .tasks) column))
+      fits : (f : Task → ℕ) (column : List ℕ) → take (p .tasks) column ≡ map f ts → Fits (p .tasks) column
+      fits f column e =
+          let n : length (take (p .tasks) column) ≡ p .tasks = ap length e ∙ length-map ts f ∙ sym (h .count) in
+          (n, omega (arith, length-take (p .tasks) column))

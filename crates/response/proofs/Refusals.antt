@@ -1,25 +1,26 @@
 -- TIMES: from its rules in their order to its answer.
-use mathlib.Core.Path.{_≡_, refl, sym, ap, _∙_}
-use mathlib.Core.Bool.{true, false, not, false≢true}
+use mathlib.Core.Path.{_≡_, _∙_}
+use mathlib.Core.Bool.{true, false, not}
 use mathlib.Core.Logic.{inl, inr}
 use mathlib.Core.List.{List, [], _∷_}
 use Prim.Native.Nat.{ℕ, suc, _+_, _-_, _≤_, _<_}
 use native.Mathlib.Omega.{arith}
-use lib.Dec.{eqb, leb}
+use lib.Dec.{leb}
 use lib.ListN.{length, getD, length-map, List·getD-eq-default}
 use borrow.Author.Tests.{eq-eqb, ne-eqb, leb-true, le-leb, not-false}
 use Rattle.plan.specs.declared.record.Task.{Task}
 use Rattle.plan.specs.Faults.{fault, none, faultIf, firstFault, firstFrom}
-use Rattle.plan.specs.Tasks.{between, periodMins, periodMaxs}
+use Rattle.plan.specs.Tasks.{between, wcets, periodMins, periodMaxs}
 use Rattle.plan.specs.Layout.{taskCount}
-use Rattle.plan.specs.Files.{fileFault, accepted, tasksOf}
+use Rattle.plan.specs.Files.{fileFault, tasksOf}
 use Rattle.plan.proofs.Rules.{or-next, or-here, if-passed, run-if, run-next, run-passed, and-left, and-right}
-use Rattle.plan.proofs.Accepted.{AllSane, accepted-sane, tasks-length}
+use Rattle.plan.proofs.Fields.{ne-zero}
+use Rattle.plan.proofs.Accepted.{accepted-sane, tasks-length}
 use Rattle.response.specs.declared.times.Times.{Times}
 use Rattle.response.specs.Analysis.{timingOf, missedCount, firstMissed}
-use Rattle.response.specs.Promises.{periodsFault, spaceFault, boundFault, boundsFault, timesFault, timesOf, Analyses}
+use Rattle.response.specs.Inner.{refusal}
+use Rattle.response.specs.Promises.{boundFault, boundsFault, timesFault, timesOf, Analyses}
 use Rattle.response.proofs.Tests.{le-or-lt, both}
-use Rattle.response.proofs.Dominance.{AtMost}
 use Rattle.response.proofs.Bounds.{Within}
 use Rattle.response.proofs.Exactness.{response-exact}
 use Rattle.response.proofs.Plans.{sane-at}
@@ -52,29 +53,15 @@ bounds-within ts xs n e = record { sized = n; low = λ k. at k .0; high = λ k. 
         (leb-true l x (and-left (leb l x) (leb x u) b), leb-true x u (and-right (leb l x) (leb x u) b))
   ]
 
-module _ (s xs o : List ℕ) where
-  -- the first rule that is broken
-  pub at-file : (fileFault s .number ≡ 0 → ⊥) → timesFault s xs (length o) ≡ fileFault s
-  unfolding timesFault
-  at-file h = or-here (fileFault s) _ h
+-- where rule 23 is the first that may be broken
+at-bounds : (s xs o : List ℕ) → fileFault s .number ≡ 0 → length xs ≡ taskCount s → length o ≡ taskCount s
+    → timesFault s xs (length o) ≡ firstFault (boundsFault (tasksOf s) xs ∷ [])
+unfolding timesFault
+at-bounds s xs o a n k = or-next (fileFault s) _ a ∙ rw (eq-eqb (length xs) (taskCount s) n, eq-eqb (length o) (taskCount s) k)
 
-  module _ (f : fileFault s .number ≡ 0) where
-    pub at-periods : (length xs ≡ taskCount s → ⊥) → timesFault s xs (length o) ≡ fault 21 0
-    unfolding timesFault
-    at-periods h = or-next (fileFault s) _ f ∙ rw (ne-eqb (length xs) (taskCount s) h)
-
-    module _ (n : length xs ≡ taskCount s) where
-      pub at-space : (length o ≡ taskCount s → ⊥) → timesFault s xs (length o) ≡ fault 22 0
-      unfolding timesFault
-      at-space h = or-next (fileFault s) _ f ∙ rw (eq-eqb (length xs) (taskCount s) n, ne-eqb (length o) (taskCount s) h)
-
-      pub at-bounds : length o ≡ taskCount s → timesFault s xs (length o) ≡ firstFault (boundsFault (tasksOf s) xs ∷ [])
-      unfolding timesFault
-      at-bounds h = or-next (fileFault s) _ f ∙ rw (eq-eqb (length xs) (taskCount s) n, eq-eqb (length o) (taskCount s) h)
-
-  pub refuses : (n p : ℕ) (r : Times) → timesFault s xs (length o) ≡ fault n p → (n ≡ 0 → ⊥)
-      → r ≡ record { number = n; place = p; missed = 0; first = 0 } → Analyses s xs o o r
-  refuses n p r e h f =
+module _ {s xs o : List ℕ} {r : Times} where
+  refused : {n p : ℕ} → timesFault s xs (length o) ≡ fault n p → (n ≡ 0 → ⊥) → r ≡ refusal n p → Analyses s xs o o r
+  refused {n} {p} e h f =
       let b = ne-eqb n 0 h in
       rw f
       (record {
@@ -86,16 +73,44 @@ module _ (s xs o : List ℕ) where
         exact = λ t i l. absurd (both (rw e at t) b);
       })
 
-  pub analyses : (o′ : List ℕ) (r : Times) → timesFault s xs (length o) ≡ none → accepted s ≡ true → o′ ≡ timesOf s xs
-      → r .number ≡ 0 → r .place ≡ 0 → r .missed ≡ missedCount o′ → r .first ≡ firstMissed o′ → Analyses s xs o o′ r
-  analyses o′ r e a w n p m k =
-      record {
-        number = rw e n;
-        place = rw e p;
-        missed = rw e (m ∙ ap missedCount w);
-        first = rw e (k ∙ ap firstMissed w);
-        times = rw e w;
-        exact = λ t i l. let h : i < length (tasksOf s) = rw (tasks-length s) l in
-            let g : i < length (timingOf (tasksOf s) .wcet) = rw (length-map (tasksOf s) (λ t. t .wcet)) h in
-            rw (w, times-at (timingOf (tasksOf s)) xs i g) (response-exact (timingOf (tasksOf s)) xs i (sane-at (accepted-sane s a) i .wcet-some h));
-      }
+  -- the first rule that is broken
+  pub refused-file : {n p : ℕ} → n ≡ fileFault s .number → p ≡ fileFault s .place → (n ≡ 0 → ⊥) → r ≡ refusal n p → Analyses s xs o o r
+  unfolding timesFault
+  refused-file d e h f = refused (rw (d, e) (or-here (fileFault s) _ (λ z. h (d ∙ z)))) h f
+
+  module _ (a : fileFault s .number ≡ 0) where
+    pub refused-periods : (length xs ≡ taskCount s → ⊥) → r ≡ refusal 21 0 → Analyses s xs o o r
+    unfolding timesFault
+    refused-periods h f = refused (or-next (fileFault s) _ a ∙ rw (ne-eqb (length xs) (taskCount s) h)) (λ z. omega arith) f
+
+    module _ (n : length xs ≡ taskCount s) where
+      pub refused-space : (length o ≡ taskCount s → ⊥) → r ≡ refusal 22 0 → Analyses s xs o o r
+      unfolding timesFault
+      refused-space h f =
+          refused
+          (or-next (fileFault s) _ a ∙ rw (eq-eqb (length xs) (taskCount s) n, ne-eqb (length o) (taskCount s) h))
+          (λ z. omega arith)
+          f
+
+      module _ (k : length o ≡ taskCount s) where
+        pub refused-bounds : (place : ℕ) → boundsFault (tasksOf s) xs ≡ faultIf (leb 1 place) 23 place → (place ≡ 0 → ⊥)
+            → r ≡ refusal 23 place → Analyses s xs o o r
+        refused-bounds place b h f =
+            let e = rw (le-leb 1 place (ne-zero place h)) at b in refused (at-bounds s xs o a n k ∙ rw e) (λ z. omega arith) f
+
+        pub analysed : {o′ : List ℕ} → boundsFault (tasksOf s) xs ≡ none → o′ ≡ timesOf s xs
+            → r ≡ record { number = 0; place = 0; missed = missedCount o′; first = firstMissed o′ } → Analyses s xs o o′ r
+        analysed {o′} b w f =
+            let e : timesFault s xs (length o) ≡ none = at-bounds s xs o a n k ∙ rw b in
+            rw (f, w)
+            (record {
+              number = rw e;
+              place = rw e;
+              missed = rw e;
+              first = rw e;
+              times = rw e;
+              exact = λ t i l. let h : i < length (tasksOf s) = rw (tasks-length s) l in
+                  let g : i < length (wcets (tasksOf s)) = rw (length-map (tasksOf s) (λ t. t .wcet)) h in
+                  rw (times-at (timingOf (tasksOf s)) xs i g)
+                  (response-exact (timingOf (tasksOf s)) xs i (sane-at (accepted-sane s (eq-eqb (fileFault s .number) 0 a)) i .wcet-some h));
+            })

@@ -1,11 +1,12 @@
--- What the inner time test asks of its columns.
+-- What the inner functions ask and promise, for their callers' proofs. A reader of the public calls needs none of it.
 use mathlib.Core.Path.{_≡_}
 use mathlib.Core.List.{List}
 use Prim.Native.Nat.{ℕ, _≤_, _<_}
 use lib.ListN.{length, getD}
 use Rattle.plan.specs.Tasks.{maxTasks, maxTicks}
+use Rattle.response.specs.declared.times.Times.{Times}
 
--- as many periods as wcets, none of them 0, and all within the plan's limits, so that no sum and no product wraps;
+-- what the time test asks of its columns: as many periods as wcets, none of them 0, and all within the plan's limits, so that no sum and no product wraps;
 -- the caps need no bound: a deadline is at most a period
 pub record Limits (wcet xs : List ℕ) : Type 0 where
   pub sized : length xs ≡ length wcet
@@ -13,3 +14,7 @@ pub record Limits (wcet xs : List ℕ) : Type 0 where
   pub short : (k : ℕ) → getD wcet k 0 ≤ maxTicks
   pub some : (k : ℕ) → k < length xs → 1 ≤ getD xs k 0
   pub most : (k : ℕ) → getD xs k 0 ≤ maxTicks
+
+-- a refusal by TIMES
+abbrev pub refusal : ℕ → ℕ → Times
+refusal number place = record { number = number; place = place; missed = 0; first = 0 }

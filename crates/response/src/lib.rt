@@ -4,7 +4,8 @@ mod climb; // climb.rt: demand and response time of one task
 mod times; // times.rt: TIMES
 
 pub use climb::meets_deadline;
-pub use schedulability::{first_missed, is_schedulable};
 pub use climb::response_time;
+pub use schedulability::first_missed;
+pub use schedulability::is_schedulable;
 pub use times::Times;
 pub use times::response_times;

@@ -1,11 +1,11 @@
 ghost use mathlib.Core.Path.{_≡_};
-ghost use Prim.Native.Nat.{ℕ, _≤_};
+ghost use Prim.Native.Nat.{_≤_};
 ghost use lib.Dec.{leb};
 ghost use lib.ListN.{length};
 ghost use Rattle.plan.specs.Faults.{faultIf, firstFrom};
 ghost use Rattle.plan.specs.Tasks.{maxTasks};
 ghost use Rattle.response.specs.Analysis.{timing, responseTimes, missedCount, firstMissed};
-ghost use Rattle.response.specs.Inner.{Limits};
+ghost use Rattle.response.specs.Inner.{Limits, refusal};
 ghost use Rattle.response.specs.Promises.{boundFault, Analyses};
 use super::climb::response_time;
 
@@ -20,7 +20,7 @@ pub struct Times {
 
 impl Times {
     fn refused(number: u32, place: u32) -> Times
-        ensures { λ r. ⌜ r ≡ record { number = number; place = place; missed = 0; first = 0 } ⌝ }
+        ensures { λ r. ⌜ r ≡ refusal number place ⌝ }
     {
         Times {
             number,
@@ -82,12 +82,12 @@ fn first_missed(times: &[u32]) -> u32
     requires { ⌜ length (now times) ≤ maxTasks ⌝ }
     ensures { λ r. ⌜ r ≡ firstMissed (now (times .entry)) ⌝ }
 {
-    let mut i: usize = 0;
-    while i < times.len() {
-        if times[i] == 0 {
-            return (i + 1) as u32;
+    let mut task: usize = 0;
+    while task < times.len() {
+        if times[task] == 0 {
+            return (task + 1) as u32;
         }
-        i += 1;
+        task += 1;
     }
     0
 }

@@ -2,7 +2,7 @@ use borrow.Author.Needs.{needs}
 use native.Mathlib.Omega.{arith}
 use mathlib.Core.Path.{_≡_}
 use mathlib.Core.List.{List}
-use Prim.Native.Nat.{ℕ, _+_, _-_, _*_, _≤_}
+use Prim.Native.Nat.{ℕ, suc, _+_, _-_, _*_, _≤_}
 use lib.ListN.{getD}
 use native.Mathlib.Numerals.{add-one}
 use Rattle.plan.specs.Tasks.{maxTicks}
@@ -17,7 +17,7 @@ Inv-loop wcet periods i t sum₀ j₀ sum j =
     × (sum ≤ maxTicks + 2 * maxTicks * maxTicks * j))
 
 abbrev μ-loop : tie.MeasureT-loop
-μ-loop wcet periods i t sum₀ j₀ sum j = i - j
+μ-loop wcet periods i t sum₀ j₀ sum j = suc i - j
 
 mul-wide : tie.Need-mul-wide Inv-loop μ-loop
 mul-wide c = search needs

@@ -34,7 +34,6 @@ cast-result c = search needs
 
 returns : tie.Need-returns Inv-loop μ-loop
 returns c =
-
     let a = c .before .before .before .before .before .before .before .args in let i : ℕ = c .before .before .before .loop .i in let e : i + 1 ≡ suc i = omega arith in
     rw e (sym (first-missed-is (timing (a .wcet .now) (a .deadline-cap .now)) (a .periods .now) i (record { below = c .before .before .loop-test .taken; misses = sym (c .before .meets-deadline .ensures) ∙ not-true _ (c .if1 .taken); above = c .before .before .before .loop .inv .1 })))
 
@@ -49,7 +48,6 @@ loop-again c = (omega arith, below-more _ _ (c .before .before .before .loop .in
 
 returns-2 : tie.Need-returns-2 Inv-loop μ-loop
 returns-2 c =
-
     let a = c .before .before .before .before .before .args in let T = timing (a .wcet .now) (a .deadline-cap .now) in
     sym (schedulable-first T (a .periods .now) (all-schedulable T (a .periods .now) (λ j h. c .before .loop .inv .1 j (omega arith))))
 

@@ -1,6 +1,6 @@
 use mathlib.Core.Path.{_≡_, refl, sym, _∙_}
 use mathlib.Core.List.{List}
-use Prim.Native.Nat.{ℕ, _+_, _-_, _≤_}
+use Prim.Native.Nat.{ℕ, _+_, _-_}
 use borrow.Author.Needs.{needs}
 use native.Mathlib.Omega.{arith}
 use lib.ListN.{length, drop, drop-of-length-le}
@@ -10,10 +10,10 @@ use Rattle.response.proofs.times.first_missed.Statement.{statement}
 use Rattle.response.proofs.times.first_missed.Tie as tie
 
 abbrev Inv-loop : tie.InvT-loop
-Inv-loop times i₀ i = firstMissed times ≡ firstMissedFrom (i + 1) (drop i times)
+Inv-loop times task₀ task = firstMissed times ≡ firstMissedFrom (task + 1) (drop task times)
 
 abbrev μ-loop : tie.MeasureT-loop
-μ-loop times i₀ i = length times - i
+μ-loop times task₀ task = length times - task
 
 loop-holds : tie.Need-loop-holds Inv-loop μ-loop
 loop-holds c = refl
@@ -33,11 +33,11 @@ cast-result c = search needs
 returns : tie.Need-returns Inv-loop μ-loop
 returns c =
     let rs : List ℕ = c .before .before .before .before .args .times .now in
-    let i : ℕ = c .before .before .before .loop .i in
-    sym (c .before .before .before .loop .inv ∙ search-miss rs i (omega arith) (c .if1 .taken))
+    let k : ℕ = c .before .before .before .loop .task in
+    sym (c .before .before .before .loop .inv ∙ search-miss rs k (omega arith) (c .if1 .taken))
 
-add-i : tie.Need-add-i Inv-loop μ-loop
-add-i c = search needs
+add-task : tie.Need-add-task Inv-loop μ-loop
+add-task c = search needs
 
 loop-less : tie.Need-loop-less Inv-loop μ-loop
 loop-less c = search needs
@@ -45,13 +45,13 @@ loop-less c = search needs
 loop-again : tie.Need-loop-again Inv-loop μ-loop
 loop-again c =
     let rs : List ℕ = c .before .before .before .before .args .times .now in
-    let i : ℕ = c .before .before .before .loop .i in
-    c .before .before .before .loop .inv ∙ search-meet rs i (omega arith) (c .if1 .left)
+    let k : ℕ = c .before .before .before .loop .task in
+    c .before .before .before .loop .inv ∙ search-meet rs k (omega arith) (c .if1 .left)
 
 returns-2 : tie.Need-returns-2 Inv-loop μ-loop
 returns-2 c =
     let rs : List ℕ = c .before .before .args .times .now in
-    let e = drop-of-length-le rs {i = c .before .loop .i} (omega arith) in
+    let e = drop-of-length-le rs {i = c .before .loop .task} (omega arith) in
     sym (rw e at (c .before .loop .inv))
 
 pub first-missed-spec : {M : Type 1} → statement M
@@ -66,7 +66,7 @@ first-missed-spec =
     add-result
     cast-result
     returns
-    add-i
+    add-task
     loop-less
     loop-again
     returns-2)

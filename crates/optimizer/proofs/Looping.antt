@@ -1,0 +1,166 @@
+-- The loop over the work space: what holds between rounds, what a taken node gives, and how each way out ends it.
+use mathlib.Core.Path.{_≡_, refl, sym, ap, _∙_}
+use mathlib.Core.Bool.{Bool, true, false, cond}
+use mathlib.Core.List.{List, [], _∷_, _++_}
+use Prim.Native.Nat.{ℕ, suc, _+_, _-_, _*_, _≤_, _<_}
+use native.Mathlib.Nat.{mul-le-mul-right}
+use native.Mathlib.Numerals.{add-one}
+use native.Mathlib.Omega.{arith}
+use lib.Dec.{eqb, ltb}
+use lib.ListN.{length, getD, take, length-map}
+use borrow.Author.Tests.{ltb-true, ltb-false}
+use Rattle.plan.specs.declared.record.Task.{Task}
+use Rattle.plan.specs.Tasks.{maxTasks, maxTicks, maxWeight, wcets, deadlineCaps, periodMins, periodMaxs, weights}
+use Rattle.response.specs.Analysis.{timing, timingOf, schedulable}
+use Rattle.response.specs.Assignments.{cost}
+use Rattle.response.specs.Inner.{Limits}
+use Rattle.response.proofs.Bounds.{Within}
+use Rattle.response.proofs.Plans.{sane-at, limits-within}
+use Rattle.optimizer.specs.declared.cheapest.Answer.{Answer}
+use Rattle.optimizer.specs.declared.children.Listing.{Listing}
+use Rattle.optimizer.specs.declared.children.Listing.the-variants.{Listed, Full}
+use Rattle.optimizer.specs.Nodes.{leastOf, without, kept, occurrences, SameNodes}
+use Rattle.optimizer.specs.Rule.{End, ended}
+use Rattle.optimizer.specs.Search.{problem, search, mua, childrenFrom}
+use Rattle.optimizer.specs.Inner.{nodes, Open, Taken, Priced, HasRoom, Above, keptChildren, openAfter, Lists, ColumnsOf, Ends}
+use Rattle.optimizer.specs.Mua.{Columns, Unschedulable}
+use Rattle.optimizer.proofs.Space.{length-nodes}
+use Rattle.optimizer.proofs.Maximal.{Sound, FailsAbove, mua-fails}
+use Rattle.optimizer.proofs.Branching.{over}
+use Rattle.optimizer.proofs.Running.{Running, running-start, running-some, running-within, running-spent, running-answer, running-full, running-on}
+use Rattle.optimizer.proofs.Settled.{sound}
+
+-- which listing it was
+listing-full : (b : Bool) (t : ℕ) {r : Listing} → r ≡ cond b Full (Listed t) → r ≡ Full → b ≡ true
+listing-full true t e f = refl
+listing-full false t e f = let z : _≡_ {A = ℕ} 0 1 = cc in absurd (omega arith)
+
+listing-listed : (b : Bool) (t : ℕ) {c : ℕ} {r : Listing} → r ≡ cond b Full (Listed t) → r ≡ Listed c → (b ≡ false) × (c ≡ t)
+listing-listed true t e f = let z : _≡_ {A = ℕ} 0 1 = cc in absurd (omega arith)
+listing-listed false t e f = (refl, cc)
+
+module _ {ts : List Task} {wcet caps mins maxs ws : List ℕ} (g : ColumnsOf ts wcet caps mins maxs ws) where
+  abbrev test : List ℕ → Bool
+  test = schedulable (timing wcet caps)
+
+  sound-test : Sound ts test
+  sound-test = rw (g .wcet-is, g .caps-is) (sound (g .sane))
+
+  pub width : (length wcet ≡ length ts) × (length caps ≡ length ts) × (length maxs ≡ length ts) × (length ws ≡ length ts) × (length mins ≡ length ts)
+  width = (rw (g .wcet-is) (length-map ts (λ t. t .wcet)), rw (g .caps-is) (length-map ts (λ t. t .«deadline_cap»)), rw (g .maxs-is) (length-map ts (λ t. t .«period_max»)), rw (g .weights-is) (length-map ts (λ t. t .weight)), rw (g .mins-is) (length-map ts (λ t. t .«period_min»)))
+
+  light : (i : ℕ) → getD ws i 0 ≤ maxWeight
+  light i = rw (g .weights-is) (sane-at (g .sane) i .weight-most)
+
+  -- count open nodes at the front of the work space, of so many numbers
+  pub record Looping (budget room size : ℕ) (work : List ℕ) (count rounds : ℕ) : Type 0 where
+    pub few : count ≤ room
+    pub long : length work ≡ size
+    pub running : Running ts test budget room rounds (nodes count (length ws) work)
+
+  abbrev target : ℕ → ℕ → End (Unit {0})
+  target budget room = search (problem test mins maxs ws) budget room
+
+  longest : test maxs ≡ true → test (periodMaxs ts) ≡ true
+  longest top = rw (g .maxs-is) at top
+
+  module _ (top : test maxs ≡ true) {budget room size : ℕ} (fits : room * length ws ≤ size) where
+    pub begins : 1 ≤ room → {work : List ℕ} → length work ≡ size → take (length ws) work ≡ mins → Looping budget room size work 1 0
+    begins h {work} l e = record { few = h; long = l; running = rw (e, g .mins-is) (running-start sound-test budget room) }
+
+    module _ {work : List ℕ} {count rounds : ℕ} (r : Looping budget room size work count rounds) where
+      pub some-open : 1 ≤ count
+      some-open = omega (arith, running-some sound-test (longest top) (r .running), length-nodes count (length ws) work)
+
+      pub all-open : Open ws work count
+      all-open = record { few = omega (arith, g .few, width .3); light = light; fits = omega (arith, r .long, mul-le-mul-right (length ws) (r .few)) }
+
+      over-target : target budget room ≡ search (over ts test) budget room
+      over-target = rw (g .mins-is, g .maxs-is, g .weights-is)
+
+      pub ends-spent : budget ≤ rounds → target budget room ≡ ended 33 [] rounds (cost ws (leastOf ws (nodes count (length ws) work))) tt
+      ends-spent h = over-target ∙ running-spent sound-test (longest top) (r .running) refl h ∙ ap (λ (w : List ℕ). ended 33 [] rounds (cost w (leastOf w (nodes count (length ws) work))) tt) (sym (g .weights-is))
+
+      module _ {v p : List ℕ} (t : Taken ws count work v p) where
+        abbrev node : List ℕ
+        node = take (length ws) p
+
+        is-least : node ≡ leastOf (weights ts) (nodes count (length ws) work)
+        is-least = t .least ∙ ap (λ (w : List ℕ). leastOf w (nodes count (length ws) work)) (g .weights-is)
+
+        within : Within ts node
+        within = running-within sound-test (longest top) (r .running) is-least
+
+        pub node-limits : Limits wcet node
+        node-limits = rw (g .wcet-is) (limits-within (g .sane) (g .few) within)
+
+        pub node-priced : Priced ws node
+        node-priced = record { few = omega (arith, within .sized, g .few); sized = t .sized; light = light }
+
+        module _ (h : rounds < budget) where
+          pub ends-answer : test node ≡ true → target budget room ≡ ended 0 node (rounds + 1) 0 tt
+          ends-answer e = rw (add-one rounds) (over-target ∙ running-answer sound-test (longest top) (r .running) is-least h e)
+
+          module _ (e : test node ≡ false) (l : length v ≡ length work) where
+            pub node-fails : Unschedulable wcet caps maxs node
+            node-fails = record {
+              columns = record { limits = node-limits; works = λ k b. rw (g .wcet-is) (sane-at (g .sane) k .wcet-some (omega (arith, width .0))); capped = omega (arith, width) };
+              sized = omega (arith, width, within .sized);
+              high = λ k. rw (g .maxs-is) (within .high k);
+              most = λ k. rw (g .maxs-is) (sane-at (g .sane) k .max-most);
+              fails = e;
+            }
+
+            pub node-room : HasRoom v (count - 1) room node
+            node-room = record { within = omega (arith, r .few); fits = rw (t .sized) (omega (arith, r .long)) }
+
+            abbrev others : List (List ℕ)
+            others = nodes (count - 1) (length ws) v
+
+            abbrev u : List ℕ
+            u = mua test maxs node
+
+            u-is : u ≡ mua test (periodMaxs ts) node
+            u-is = ap (λ (m : List ℕ). mua test m node) (g .maxs-is)
+
+            abbrev kids : List (List ℕ)
+            kids = childrenFrom (length node) (periodMaxs ts) node u 0
+
+            pub node-above : Above node u
+            node-above = let f : FailsAbove ts test node u = rw (g .maxs-is) (mua-fails test within e) in record { sized = f .within .sized ∙ sym (within .sized); above = f .above }
+
+            rest-is : SameNodes others (without (leastOf (weights ts) (nodes count (length ws) work)) (nodes count (length ws) work))
+            rest-is q = t .rest q ∙ ap (λ (w : List ℕ). occurrences q (without (leastOf w (nodes count (length ws) work)) (nodes count (length ws) work))) (g .weights-is)
+
+            module _ {w : List ℕ} {x : Listing} (y : Lists maxs node u (count - 1) room v w x) where
+              kept-is : keptChildren maxs node u (count - 1) v ≡ kept kids others
+              kept-is = ap (λ (m : List ℕ). kept (childrenFrom (length node) m node u 0) (nodes (count - 1) (length node) v)) (g .maxs-is) ∙ ap (λ m. kept kids (nodes (count - 1) m v)) (t .sized)
+
+              total : openAfter maxs node u (count - 1) v ≡ length others + length (kept kids others)
+              total = omega (arith, ap length kept-is, length-nodes (count - 1) (length ws) v)
+
+              pub ends-full : x ≡ Full → target budget room ≡ ended 34 [] (rounds + 1) (cost ws node) tt
+              ends-full f =
+                  let b = ltb-true room _ (rw total at (listing-full (ltb room (openAfter maxs node u (count - 1) v)) _ (y .outcome) f)) in
+                  rw (add-one rounds) (over-target ∙ running-full sound-test (longest top) (r .running) is-least h e u-is others rest-is b ∙ ap (λ (q : List ℕ). ended 34 [] (suc rounds) (cost q node) tt) (sym (g .weights-is)))
+
+              pub goes-on : {c : ℕ} → x ≡ Listed c → length w ≡ length v → Looping budget room size w c (rounds + 1)
+              goes-on {c} f m =
+                  let b = listing-listed (ltb room (openAfter maxs node u (count - 1) v)) _ (y .outcome) f in
+                  let n : nodes c (length ws) w ≡ others ++ kept kids others =
+                  ap (λ k. nodes k (length ws) w) (b .1)
+                  ∙ ap (λ k. nodes (openAfter maxs node u (count - 1) v) k w) (sym (t .sized))
+                  ∙ y .listed (b .0)
+                  ∙ ap (λ (q : List (List ℕ)). nodes (count - 1) (length node) v ++ q) kept-is
+                  ∙ ap (λ k. nodes (count - 1) k v ++ kept kids others) (t .sized) in
+                  let i = ltb-false room (openAfter maxs node u (count - 1) v) (b .0) in
+                  record {
+                    few = omega arith;
+                    long = m ∙ l ∙ r .long;
+                    running = rw (add-one rounds) (running-on sound-test (longest top) (r .running) is-least h e u-is others rest-is (omega (arith, total)) (nodes c (length ws) w) (λ p. rw n));
+                  }
+
+-- the outcome in the words of the code
+pub ends : {ws : List ℕ} {e : End (Unit {0})} {n r b b′ price : ℕ} {xs o o′ : List ℕ} → e ≡ ended n xs r b tt → price ≡ cond (eqb n 0) (cost ws xs) 0 → b′ ≡ b → o′ ≡ cond (eqb n 0) xs o
+    → Ends ws e o o′ (record { number = n; place = 0; cost = price; rounds = r; bound = b′ })
+ends h k q w = rw h (record { number = refl; place = refl; price = k; rounds = refl; bound = q; periods = w })
