@@ -1,0 +1,259 @@
+//! Document 01 once more, in plain Rust: the file rules, the exact test of
+//! Lehoczky, Sha and Ding, the step rule and the desk's block. It follows the
+//! document sentence by sentence and is 64 bits wide throughout; nothing here
+//! is shared with what it checks.
+
+pub const WORK_SPACE: u64 = 16_000;
+pub const TICK_MAX: u64 = 1_000_000;
+pub const WEIGHT_MAX: u64 = 1_000;
+
+#[derive(Clone, Debug)]
+pub struct Task {
+    pub wcet: u64,
+    pub period_min: u64,
+    pub period_max: u64,
+    pub deadline_cap: u64,
+    pub weight: u64,
+    pub name: [u8; 16],
+}
+
+/// A refusal's number and place.
+pub type Refusal = (u32, u32);
+
+#[derive(Clone, Debug, Default, PartialEq)]
+pub struct Outcome {
+    pub number: u32,
+    pub place: u32,
+    pub cost: u64,
+    pub rounds: u64,
+    pub bound: u64,
+    pub n: u32,
+    pub periods: Vec<u64>,
+}
+
+fn number_at(file: &[u8], at: usize, width: usize) -> u64 {
+    (0..width).rev().fold(0, |value, k| value << 8 | u64::from(file[at + k]))
+}
+
+/// READ: the tasks, or the first broken rule of 1 to 11.
+pub fn read(file: &[u8]) -> Result<Vec<Task>, Refusal> {
+    let length = file.len() as u64;
+    if length < 16 || length > 2_048 {
+        return Err((1, 0));
+    }
+    if number_at(file, 0, 2) != 1 {
+        return Err((2, 0));
+    }
+    let n = number_at(file, 2, 2);
+    if n < 1 || n > 16 {
+        return Err((3, 0));
+    }
+    let total = number_at(file, 12, 4);
+    if total != length {
+        return Err((4, 0));
+    }
+    let rows = number_at(file, 4, 4)..number_at(file, 4, 4) + 20 * n;
+    let names = number_at(file, 8, 4)..number_at(file, 8, 4) + 16 * n;
+    if rows.start < 16 || rows.end > total {
+        return Err((5, 1));
+    }
+    if names.start < 16 || names.end > total {
+        return Err((5, 2));
+    }
+    if rows.clone().any(|at| names.contains(&at)) {
+        return Err((6, 0));
+    }
+    for at in 16..total {
+        if !rows.contains(&at) && !names.contains(&at) && file[at as usize] != 0 {
+            return Err((7, at as u32));
+        }
+    }
+    let mut tasks: Vec<Task> = Vec::new();
+    for i in 0..n {
+        tasks.push(read_task(file, rows.start + 20 * i, names.start + 16 * i, i as u32 + 1)?);
+    }
+    for later in 1..tasks.len() {
+        if tasks[..later].iter().any(|earlier| earlier.name == tasks[later].name) {
+            return Err((11, later as u32 + 1));
+        }
+    }
+    Ok(tasks)
+}
+
+fn read_task(file: &[u8], row: u64, name_at: u64, place: u32) -> Result<Task, Refusal> {
+    let field = |k: usize| number_at(file, row as usize + 4 * k, 4);
+    let mut name = [0; 16];
+    name.copy_from_slice(&file[name_at as usize..name_at as usize + 16]);
+    let task = Task {
+        wcet: field(0),
+        period_min: field(1),
+        period_max: field(2),
+        deadline_cap: field(3),
+        weight: field(4),
+        name,
+    };
+    let is_tick = |value: u64| value >= 1 && value <= TICK_MAX;
+    if !is_tick(task.wcet)
+        || !is_tick(task.period_min)
+        || !is_tick(task.period_max)
+        || !is_tick(task.deadline_cap)
+        || task.weight > WEIGHT_MAX
+    {
+        return Err((8, place));
+    }
+    if task.period_min > task.period_max {
+        return Err((9, place));
+    }
+    if !is_name(&name) {
+        return Err((10, place));
+    }
+    Ok(task)
+}
+
+/// 1 to 16 of A-Z, a-z, 0-9 and hyphen, then zero bytes to the end.
+fn is_name(name: &[u8; 16]) -> bool {
+    let length = name.iter().position(|&byte| byte == 0).unwrap_or(16);
+    length >= 1
+        && name[..length].iter().all(|byte| byte.is_ascii_alphanumeric() || *byte == b'-')
+        && name[length..].iter().all(|&byte| byte == 0)
+}
+
+fn deadline(task: &Task, period: u64) -> u64 {
+    period.min(task.deadline_cap)
+}
+
+/// The work that task i and those above it ask for by time t.
+fn demand(tasks: &[Task], periods: &[u64], i: usize, t: u64) -> u64 {
+    let above: u64 = (0..i).map(|j| tasks[j].wcet * t.div_ceil(periods[j])).sum();
+    tasks[i].wcet + above
+}
+
+/// The least t from 1 to the deadline that covers its own demand. Demand never
+/// falls as t grows, so no t between one and its demand covers its own: the
+/// climb passes none by.
+pub fn response_time(tasks: &[Task], periods: &[u64], i: usize) -> Option<u64> {
+    let deadline = deadline(&tasks[i], periods[i]);
+    let mut t = tasks[i].wcet;
+    while t <= deadline {
+        let needed = demand(tasks, periods, i, t);
+        if needed <= t {
+            return Some(t);
+        }
+        t = needed;
+    }
+    None
+}
+
+/// The same by its definition: every t in turn.
+pub fn response_time_by_scan(tasks: &[Task], periods: &[u64], i: usize) -> Option<u64> {
+    (1..=deadline(&tasks[i], periods[i])).find(|&t| demand(tasks, periods, i, t) <= t)
+}
+
+fn first_late(tasks: &[Task], periods: &[u64]) -> Option<usize> {
+    (0..tasks.len()).find(|&i| response_time(tasks, periods, i).is_none())
+}
+
+pub fn schedulable(tasks: &[Task], periods: &[u64]) -> bool {
+    first_late(tasks, periods).is_none()
+}
+
+/// A listed assignment. The derived order is the document's: cost, then the
+/// first period, then the second, and so on.
+#[derive(Clone, Debug, PartialEq, Eq, PartialOrd, Ord)]
+pub struct Node {
+    pub cost: u64,
+    pub periods: Vec<u64>,
+}
+
+pub fn node(tasks: &[Task], periods: Vec<u64>) -> Node {
+    let cost = tasks.iter().zip(&periods).map(|(task, period)| task.weight * period).sum();
+    Node { cost, periods }
+}
+
+fn dominates(one: &[u64], other: &[u64]) -> bool {
+    one.iter().zip(other).all(|(a, b)| a >= b)
+}
+
+/// From an unschedulable assignment: each period in turn raised to the greatest
+/// value that leaves the whole unschedulable. Raising a period never makes a
+/// schedulable assignment late, so bisection finds that value.
+fn mua(tasks: &[Task], periods: &[u64]) -> Vec<u64> {
+    let mut mua = periods.to_vec();
+    for i in 0..tasks.len() {
+        let mut late = mua[i];
+        let mut beyond = tasks[i].period_max + 1;
+        while beyond - late > 1 {
+            let middle = late + (beyond - late) / 2;
+            mua[i] = middle;
+            if schedulable(tasks, &mua) {
+                beyond = middle;
+            } else {
+                late = middle;
+            }
+        }
+        mua[i] = late;
+    }
+    mua
+}
+
+/// CHEAPEST with a work space of `space` numbers, at least n.
+pub fn cheapest(tasks: &[Task], budget: u64, space: u64) -> Outcome {
+    let mut outcome = Outcome { n: tasks.len() as u32, ..Outcome::default() };
+    let alone = |task: &Task| task.wcet > task.period_max.min(task.deadline_cap);
+    if let Some(i) = tasks.iter().position(alone) {
+        return Outcome { number: 31, place: i as u32 + 1, ..outcome };
+    }
+    let highest: Vec<u64> = tasks.iter().map(|task| task.period_max).collect();
+    if let Some(i) = first_late(tasks, &highest) {
+        return Outcome { number: 32, place: i as u32 + 1, ..outcome };
+    }
+    let room = space / tasks.len() as u64;
+    let mut open = vec![node(tasks, tasks.iter().map(|task| task.period_min).collect())];
+    while outcome.rounds < budget {
+        let least = (0..open.len()).min_by_key(|&k| &open[k]).expect("an open node");
+        let taken = open.swap_remove(least);
+        outcome.rounds += 1;
+        if schedulable(tasks, &taken.periods) {
+            return Outcome { cost: taken.cost, periods: taken.periods, ..outcome };
+        }
+        let mua = mua(tasks, &taken.periods);
+        let mut children = Vec::new();
+        for i in 0..tasks.len() {
+            if mua[i] < tasks[i].period_max {
+                let mut child = taken.periods.clone();
+                child[i] = mua[i] + 1;
+                if !open.iter().any(|listed| dominates(&child, &listed.periods)) {
+                    children.push(node(tasks, child));
+                }
+            }
+        }
+        if (open.len() + children.len()) as u64 > room {
+            return Outcome { number: 34, bound: taken.cost, ..outcome };
+        }
+        open.append(&mut children);
+    }
+    let least = open.iter().min().expect("an open node");
+    Outcome { number: 33, bound: least.cost, ..outcome }
+}
+
+/// What DESK writes into a block of 100 bytes.
+pub fn desk(file: &[u8], budget: u64) -> Outcome {
+    match read(file) {
+        Ok(tasks) => cheapest(&tasks, budget, WORK_SPACE),
+        Err((number, place)) => Outcome { number, place, ..Outcome::default() },
+    }
+}
+
+pub fn block(outcome: &Outcome) -> [u8; 100] {
+    let mut block = [0; 100];
+    block[0..4].copy_from_slice(&outcome.number.to_le_bytes());
+    block[4..8].copy_from_slice(&outcome.place.to_le_bytes());
+    block[8..16].copy_from_slice(&outcome.cost.to_le_bytes());
+    block[16..24].copy_from_slice(&outcome.rounds.to_le_bytes());
+    block[24..32].copy_from_slice(&outcome.bound.to_le_bytes());
+    block[32..36].copy_from_slice(&outcome.n.to_le_bytes());
+    for (i, period) in outcome.periods.iter().enumerate() {
+        block[36 + 4 * i..40 + 4 * i].copy_from_slice(&(*period as u32).to_le_bytes());
+    }
+    block
+}
