@@ -1,0 +1,3 @@
+-- Laws of the answer block.
+mod Bytes
+mod Calling
