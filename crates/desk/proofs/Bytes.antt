@@ -74,3 +74,10 @@ word-next b b′ xs at i h e =
 pub words-end : (b xs : List ℕ) (at i : ℕ) → i ≡ length xs → take (at + 4 * length xs) b ≡ take (at + 4 * i) b ++ wordsOf (drop i xs)
 unfolding wordsOf
 words-end b xs at i e = rw (e, drop-length xs, append-nil)
+
+-- a block written field by field, each behind the one before it
+pub fields-encoded : (a : Carried) (b₁ b₂ b₃ b₄ b₅ b₆ : List ℕ) → take 4 b₁ ≡ bytesOf 4 (a .number) → take 8 b₂ ≡ take 4 b₁ ++ bytesOf 4 (a .place)
+    → take 16 b₃ ≡ take 8 b₂ ++ bytesOf 8 (a .cost) → take 24 b₄ ≡ take 16 b₃ ++ bytesOf 8 (a .rounds) → take 32 b₅ ≡ take 24 b₄ ++ bytesOf 8 (a .bound)
+    → take 36 b₆ ≡ take 32 b₅ ++ bytesOf 4 (a .tasks) → take 36 b₆ ++ wordsOf (a .periods) ≡ encoded a
+unfolding encoded
+fields-encoded a b₁ b₂ b₃ b₄ b₅ b₆ number place cost rounds bound tasks = rw (tasks, bound, rounds, cost, place, number) (simp append-assoc)

@@ -1,6 +1,6 @@
 use borrow.Author.Needs.{needs}
-use mathlib.Core.List.{append-assoc}
-use Rattle.desk.specs.Block.{encoded}
+use Rattle.desk.specs.Inner.{carriedBy}
+use Rattle.desk.proofs.Bytes.{fields-encoded}
 use Rattle.desk.proofs.block.put_answer.Statement.{statement}
 use Rattle.desk.proofs.block.put_answer.Tie as tie
 
@@ -32,7 +32,6 @@ same-length : tie.Need-same-length
 same-length c = search needs
 
 returns : tie.Need-returns
-unfolding encoded
 returns c =
     let p6 = c .before .before in
     let p5 = p6 .before .before .before .before in
@@ -40,7 +39,8 @@ returns c =
     let p3 = p4 .before .before .before .before in
     let p2 = p3 .before .before .before .before in
     let p1 = p2 .before .before .before .before .before in
-    λ xs. rw (p6 .put6 .ensures, p5 .put5 .ensures, p4 .put4 .ensures, p3 .put3 .ensures, p2 .put2 .ensures, p1 .put .ensures) (simp append-assoc)
+    let a = p1 .before .before .before .before .args in
+    λ xs. fields-encoded (carriedBy (a .answer) (a .tasks) xs) (p1 .put .last .0) (p2 .put2 .last .0) (p3 .put3 .last .0) (p4 .put4 .last .0) (p5 .put5 .last .0) (p6 .put6 .last .0) (p1 .put .ensures) (p2 .put2 .ensures) (p3 .put3 .ensures) (p4 .put4 .ensures) (p5 .put5 .ensures) (p6 .put6 .ensures)
 
 pub put-answer-spec : {M : Type 1} → statement M
 put-answer-spec =
