@@ -9,13 +9,13 @@ use lib.ListN.{length, getD, take, drop, set}
 use lib.Seq.{take-at, drop-at, take-suc-set, drop-cons, drop-length}
 use Rattle.desk.specs.Block.{Carried, bytesOf, wordsOf, encoded, valueOf, words, carried}
 
-pub bytes-length : (width v : ℕ) → length (bytesOf width v) ≡ width
+bytes-length : (width v : ℕ) → length (bytesOf width v) ≡ width
 unfolding bytesOf
 bytes-length zero v = refl
 bytes-length (suc width) v = ap suc (bytes-length width (v / 256))
 
 -- bytes read back
-pub bytes-value : (width v : ℕ) → v < 256 ^ width → valueOf (bytesOf width v) ≡ v
+bytes-value : (width v : ℕ) → v < 256 ^ width → valueOf (bytesOf width v) ≡ v
 unfolding bytesOf valueOf
 bytes-value zero v h = omega arith
 bytes-value (suc width) v h =
@@ -27,7 +27,7 @@ bytes-value (suc width) v h =
 abbrev pub Narrow : List ℕ → Type 0
 Narrow xs = (k : ℕ) → getD xs k 0 < 256 ^ 4
 
-pub words-values : (xs : List ℕ) → Narrow xs → words (length xs) (wordsOf xs) ≡ xs
+words-values : (xs : List ℕ) → Narrow xs → words (length xs) (wordsOf xs) ≡ xs
 unfolding words wordsOf
 words-values [] h = refl
 words-values (x ∷ xs) h =

@@ -1,2 +1,5 @@
 // DESK: the answer block and the C interface.
 mod block; // block.rt: the writer of the block
+mod call; // call.rt: the exported call
+
+pub use call::desk_call;
