@@ -22,11 +22,15 @@ fn rounded_up(a: u32, b: u32) -> u32
     (a + b - 1) / b
 }
 
-// The value to try next. The one below high mostly decides; every fourth halves what is left, which bounds the tries.
+// The value to try next. The one above low settles a task that meets its deadline there; after it, the one below high mostly
+// decides; every fourth halves what is left, which bounds the tries.
 fn probe(low: u32, high: u32, turn: u32) -> u32
     requires { ⌜ (low + 1 < high) × (high ≤ maxTicks + 1) ⌝ }
     ensures { λ r. ⌜ (low < r) × (r < high) ⌝ }
 {
+    if turn == 0 {
+        return low + 1;
+    }
     if turn % 4 == 3 {
         return low + (high - low) / 2;
     }
