@@ -7,31 +7,33 @@ use Prim.Native.Nat.{ℕ, suc, _+_, _-_, _≤_, _<_}
 use native.Mathlib.Numerals.{add-one}
 use native.Mathlib.Omega.{arith}
 use lib.Dec.{eqb, ltb}
-use lib.ListN.{length, getD, set, drop, replicate, length-set, drop-of-length-le, getD-replicate}
+use lib.ListN.{length, getD, set, drop, replicate, length-set, drop-of-length-le, getD-replicate, List·getD-eq-default}
 use lib.Seq.{getD-set-same, getD-set-other, drop-cons}
 use borrow.Author.Tests.{eqb-true, eqb-false, ltb-true, ltb-false}
 use Rattle.response.specs.Assignments.{dominates}
+use Rattle.response.proofs.Tests.{bool, le-or-lt, eq-or-ne}
+use Rattle.response.proofs.Dominance.{at-most-dominates, not-dominates}
 use Rattle.optimizer.specs.Nodes.{dominatesSome}
 use Rattle.optimizer.specs.Search.{child}
 use Rattle.optimizer.specs.Inner.{nodeAt, nodes, Exceeds, Above, drops, inRange, DroppedBy, Branches, Dropped}
 use Rattle.optimizer.specs.declared.children.Drops.{Drops}
 use Rattle.optimizer.specs.declared.children.Drops.the-variants.{All, One, Nothing}
-use Rattle.optimizer.proofs.Needed.{bool, dominates-all, dominates-not}
 use Rattle.optimizer.proofs.Space.{length-nodes, nodes-at}
 
 module _ (q : List ℕ) {node u : List ℕ} (e : length q ≡ length node) (a : Above node u) where
   under : (i : ℕ) → i < length node → getD q i 0 ≤ suc (getD u i 0) → ((j : ℕ) → j < length node → j ≢ i → getD q j 0 ≤ getD node j 0)
       → dominates (child node u i) q ≡ true
-  under i h l o = dominates-all (child node u i) q (λ j t. elim (bool (eqb j i)) [
-    | inl x ↦ rw (eqb-true j i x, getD-set-same node i (suc (getD u i 0)) 0 h) l
-    | inr x ↦ rw (getD-set-other node i j (suc (getD u i 0)) 0 (eqb-false j i x)) (o j (simp length-set at t) (eqb-false j i x))
+  under i h l o = at-most-dominates q (child node u i) (λ j. elim (eq-or-ne j i) [
+    | inl x ↦ rw (x, getD-set-same node i (suc (getD u i 0)) 0 h) l
+    | inr x ↦ rw (getD-set-other node i j (suc (getD u i 0)) 0 x)
+        (elim (le-or-lt (length q) j) [ inl t ↦ omega (arith, List·getD-eq-default q 0 t) | inr t ↦ o j (omega arith) x ])
   ])
 
-  over : (i j : ℕ) → j < length node → getD node j 0 < getD q j 0 → j ≢ i → dominates (child node u i) q ≡ false
-  over i j h l x = dominates-not (child node u i) q j (simp length-set h) (omega arith) (rw (getD-set-other node i j (suc (getD u i 0)) 0 x) l)
+  over : (i j : ℕ) → getD node j 0 < getD q j 0 → j ≢ i → dominates (child node u i) q ≡ false
+  over i j l x = not-dominates q (child node u i) j (simp length-set e) (rw (getD-set-other node i j (suc (getD u i 0)) 0 x) l)
 
   past : (i : ℕ) → i < length node → suc (getD u i 0) < getD q i 0 → dominates (child node u i) q ≡ false
-  past i h l = dominates-not (child node u i) q i (simp length-set h) (omega arith) (rw (getD-set-same node i (suc (getD u i 0)) 0 h) l)
+  past i h l = not-dominates q (child node u i) i (simp length-set e) (rw (getD-set-same node i (suc (getD u i 0)) 0 h) l)
 
   pub drops-all : {k : ℕ} → Exceeds q node 0 k → k ≡ length node → DroppedBy q node u All
   drops-all x d = record {
@@ -42,35 +44,32 @@ module _ (q : List ℕ) {node u : List ℕ} (e : length q ≡ length node) (a : 
   module _ {i k : ℕ} (x : Exceeds q node 0 i) (y : Exceeds q node (i + 1) k) (h : i < length node) where
     pub drops-two : k < length node → DroppedBy q node u Nothing
     drops-two d = record {
-      marks = λ j t. elim (bool (eqb i j)) [
-        | inl z ↦ over j k d (y .exceeds d) (λ w. omega (arith, eqb-true i j z, y .past))
-        | inr z ↦ over j i h (x .exceeds h) (eqb-false i j z)
+      marks = λ j t. elim (eq-or-ne i j) [
+        | inl z ↦ over j k (y .exceeds d) (λ w. omega (arith, y .past))
+        | inr z ↦ over j i (x .exceeds h) z
       ];
       in-range = tt;
     }
 
     module _ (d : length node ≤ k) where
       only : (j : ℕ) → j < length node → j ≢ i → getD q j 0 ≤ getD node j 0
-      only j t z = elim (bool (ltb j i)) [
-        | inl w ↦ x .not-before j (omega arith) (ltb-true j i w)
-        | inr w ↦ y .not-before j (omega (arith, ltb-false j i w)) (omega arith)
+      only j t z = elim (le-or-lt i j) [
+        | inl w ↦ y .not-before j (omega arith) (omega arith)
+        | inr w ↦ x .not-before j (omega arith) w
       ]
 
       pub drops-one : getD q i 0 - 1 ≤ getD u i 0 → DroppedBy q node u (One i)
       drops-one l = record {
         marks = λ j t. elim (bool (eqb j i)) [
           | inl z ↦ rw (z, eqb-true j i z) (under i h (omega arith) only)
-          | inr z ↦ rw z (over j i h (x .exceeds h) (λ w. eqb-false j i z (sym w)))
+          | inr z ↦ rw z (over j i (x .exceeds h) (λ w. eqb-false j i z (sym w)))
         ];
         in-range = h;
       }
 
       pub drops-none : getD u i 0 < getD q i 0 - 1 → DroppedBy q node u Nothing
       drops-none l = record {
-        marks = λ j t. elim (bool (eqb j i)) [
-          | inl z ↦ rw (eqb-true j i z) (past i h (omega arith))
-          | inr z ↦ over j i h (x .exceeds h) (λ w. eqb-false j i z (sym w))
-        ];
+        marks = λ j t. elim (eq-or-ne i j) [ inl z ↦ rw (← z) (past i h (omega arith)) | inr z ↦ over j i (x .exceeds h) z ];
         in-range = tt;
       }
 

@@ -11,7 +11,6 @@ pub mod Branching
 pub mod Guarantees
 pub mod Running
 pub mod Settled
-mod Needed
 mod Fill
 mod Space
 mod Scans

@@ -5,7 +5,7 @@ use mathlib.Core.Logic.{_⊎_, inl, inr}
 use mathlib.Core.List.{List, [], _∷_, _++_}
 use Prim.Native.Nat.{ℕ, zero, suc, _+_, _-_, _≤_, _<_}
 use native.Mathlib.Omega.{arith}
-use lib.ListN.{length, getD}
+use lib.ListN.{length, getD, set}
 use Rattle.plan.specs.Names.{same}
 use Rattle.response.specs.Assignments.{less, dominates}
 use Rattle.response.proofs.Tests.{bool, le-or-lt, both, not-false, or-cases}
@@ -51,6 +51,12 @@ occurrences-without p q (r ∷ ps) = elim (bool (same q r)) [
     | inr s ↦ rw s (omega arith)
   ])
 ]
+
+pub occurrences-set : (p : List ℕ) (ps : List (List ℕ)) (i : ℕ) (q : List ℕ) → i < length ps
+    → occurrences p (set ps i q) + cond (same p (getD ps i [])) 1 0 ≡ occurrences p ps + cond (same p q) 1 0
+occurrences-set p [] i q h = let z : ⊥ = omega arith in absurd z
+occurrences-set p (r ∷ ps) zero q h = omega arith
+occurrences-set p (r ∷ ps) (suc i) q h = omega (arith, occurrences-set p ps i q (omega arith))
 
 pub length-without : (q : List ℕ) (ps : List (List ℕ)) → Listed q ps → suc (length (without q ps)) ≡ length ps
 length-without q [] h = let z : ⊥ = omega arith in absurd z

@@ -9,11 +9,12 @@ use native.Mathlib.Omega.{arith}
 use lib.Dec.{ltb, eqb}
 use lib.ListN.{length, getD, drop, drop-of-length-le}
 use lib.Seq.{drop-cons}
+use borrow.Author.Tests.{le-ltb, ne-eqb}
 use Rattle.response.specs.Assignments.{cost, before, byCost, less}
+use Rattle.response.proofs.Order.{first-lt, first-eq}
 use Rattle.optimizer.specs.Nodes.{leastFrom, leastOf}
 use Rattle.optimizer.specs.Inner.{nodeAt, nodes, Priced, Open, IsLeast}
 use Rattle.optimizer.proofs.Space.{in-space, length-node, length-nodes, nodes-at}
-use Rattle.optimizer.proofs.Needed.{lex-lt, lex-eq, lex-gt}
 
 pub cost-none : (ws : List ℕ) → cost ws [] ≡ 0
 cost-none [] = refl
@@ -40,6 +41,10 @@ module _ {ws xs : List ℕ} (p : Priced ws xs) {sum i : ℕ} (s : Summed ws xs s
       is = rw (add-one i, ew, ex) (omega (arith, rw (drop-cons ws i 0 (omega (arith, p .sized)), drop-cons xs i 0 h) at (s .is)));
     }
 
+-- by a first number, then by a test b, where the first number is the greater
+pub first-gt : (x y : ℕ) (b : Bool) → y < x → ltb x y || (eqb x y && b) ≡ false
+first-gt x y b h = rw (le-ltb x y (omega arith), ne-eqb x y (λ e. omega arith))
+
 -- the first i periods are the same
 pub record Tied (xs ys : List ℕ) (i : ℕ) : Type 0 where
   pub upto : i ≤ length xs
@@ -54,13 +59,13 @@ module _ {xs ys : List ℕ} {i : ℕ} (e : length xs ≡ length ys) (t : Tied xs
     heads = t .is ∙ rw (drop-cons xs i 0 h, drop-cons ys i 0 (omega arith))
 
     pub tied-less : getD xs i 0 < getD ys i 0 → before xs ys ≡ true
-    tied-less l = heads ∙ lex-lt _ _ _ l
+    tied-less l = heads ∙ first-lt _ _ _ l
 
     pub tied-more : getD ys i 0 < getD xs i 0 → before xs ys ≡ false
-    tied-more l = heads ∙ lex-gt _ _ _ l
+    tied-more l = heads ∙ first-gt _ _ _ l
 
     pub tied-next : getD xs i 0 ≡ getD ys i 0 → Tied xs ys (i + 1)
-    tied-next q = record { upto = omega arith; is = rw (add-one i) (heads ∙ lex-eq _ _ _ q) }
+    tied-next q = record { upto = omega arith; is = rw (add-one i) (heads ∙ first-eq _ _ _ q) }
 
 -- an open node lies in the work space, and its cost fits
 module _ {ws work : List ℕ} {count : ℕ} (o : Open ws work count) {k : ℕ} (h : k < count) where

@@ -6,14 +6,13 @@ use Prim.Native.Nat.{ℕ, zero, suc, _+_, _-_, _*_, _≤_, _<_}
 use native.Mathlib.Nat.{suc-mul, zero-mul, zero-add, add-comm, add-assoc, mul-le-mul-right}
 use native.Mathlib.Numerals.{add-one}
 use native.Mathlib.Omega.{arith}
-use lib.Dec.{eqb}
 use lib.ListN.{length, getD, take, drop, set, length-drop, length-set, drop-of-length-le}
 use lib.Seq.{set-at, length-take-le, take-add, take-all, drop-drop, take-at, drop-at, set-append-left, getD-set-same, getD-set-other}
-use borrow.Author.Tests.{eqb-true, eqb-false}
 use borrow.Rule.Slice.PartMut.{putMid}
+use Rattle.response.proofs.Tests.{eq-or-ne}
 use Rattle.optimizer.specs.Nodes.{occurrences, without, SameNodes}
 use Rattle.optimizer.specs.Inner.{nodeAt, nodes, put}
-use Rattle.optimizer.proofs.Needed.{bool, occurrences-append, occurrences-set, occurrences-getD, occurrences-without}
+use Rattle.optimizer.proofs.Multiset.{listed-at, occurrences-append, occurrences-set, occurrences-without}
 
 pub length-nodes : (count n : ℕ) (work : List ℕ) → length (nodes count n work) ≡ count
 length-nodes zero n work = refl
@@ -38,12 +37,6 @@ nodes-at (suc count) n work (suc k) h = rw (suc-mul k n, add-comm (k * n) n, ←
 -- a part lent and given back, in the borrow checker's words
 pub put-back : (at : ℕ) (work : List ℕ) {node p : List ℕ} → p ≡ node → putMid at (at + length node - at) work p ≡ put work at node
 put-back at work {node} e = let k : at + length node - at ≡ length node = omega arith in rw (e, k, drop-drop (length node) at work)
-
-pub put-rest : (at : ℕ) (work xs : List ℕ) {p : List ℕ} → length xs ≡ length work → p ≡ take (length xs - at) (drop at xs)
-    → putMid at (length work - at) work p ≡ take at work ++ drop at xs
-put-rest at work xs e f =
-    rw (f, take-all (length xs - at) (drop at xs) (rw (length-drop at xs) (omega arith)), drop-of-length-le (drop at work) {i = length work - at} (rw (length-drop at work) (omega arith)))
-    (ap (λ l. take at work ++ l) (append-nil (drop at xs)))
 
 put-split : (n m : ℕ) (work node : List ℕ) → put work (n + m) node ≡ take n work ++ put (drop n work) m node
 put-split n m work node = rw (take-add n m work, append-assoc, drop-drop, add-assoc)
@@ -92,11 +85,7 @@ nodes-append-set count work node i v r h =
     rw (set-put (count * length node) work node i v (omega arith) h) (nodes-append count (length node) work (set node i v) r (length-set node i v))
 
 last-set : (ps : List (List ℕ)) (k c : ℕ) (q : List ℕ) → k < length ps → getD ps c [] ≡ q → getD (set ps k q) c [] ≡ q
-last-set ps k c q h e =
-    elim (bool (eqb c k)) [
-      | inl t ↦ rw (eqb-true c k t) (getD-set-same ps k q [] h)
-      | inr t ↦ getD-set-other ps k c q [] (eqb-false c k t) ∙ e
-    ]
+last-set ps k c q h e = elim (eq-or-ne c k) [ inl t ↦ rw t (getD-set-same ps k q [] h) | inr t ↦ getD-set-other ps k c q [] t ∙ e ]
 
 -- the last node moved into stretch k: the one that was there is no longer open
 pub nodes-remove : (count n : ℕ) (work : List ℕ) (k : ℕ) → k < count → count * n ≤ length work
@@ -118,7 +107,7 @@ nodes-remove (suc count) n work k h r p =
       occurrences-set p ps k q l,
       occurrences-append p (nodes count n v) (q ∷ []),
       ap (occurrences p) (sym t ∙ e),
-      occurrences-getD ps k l,
+      listed-at ps k l,
     ))
 
 pub nodes-removed : (count n : ℕ) (work : List ℕ) (k : ℕ) → k < count → count * n ≤ length work

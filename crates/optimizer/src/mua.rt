@@ -1,3 +1,4 @@
+use super::nodes::read_node;
 use response::response_time;
 ghost use mathlib.Core.Path.{_≡_};
 ghost use mathlib.Core.Bool.{true, false};
@@ -124,27 +125,13 @@ fn raise_all(wcet: &[u32], deadline_cap: &[u32], period_max: &[u32], u: &mut [u3
     }
 }
 
-// The node at the front of an array.
-fn copied(node: &[u32]) -> [u32; 16]
-    requires { ⌜ length (now node) ≤ 16 ⌝ }
-    ensures { λ r. ⌜ take (length (now (node .entry))) r ≡ now (node .entry) ⌝ }
-{
-    let mut u = [0u32; 16];
-    let mut i: usize = 0;
-    while i < node.len() {
-        u[i] = node[i];
-        i += 1;
-    }
-    u
-}
-
 // The maximal unschedulable assignment above an unschedulable node.
 pub fn mua(wcet: &[u32], deadline_cap: &[u32], period_max: &[u32], node: &[u32]) -> [u32; 16]
     requires { ⌜ Unschedulable (now wcet) (now «deadline_cap») (now «period_max») (now node) ⌝ }
     ensures { λ r. ⌜ take (length (now (node .entry))) r ≡ mua (schedulable (timing (now (wcet .entry)) (now («deadline_cap» .entry)))) (now («period_max» .entry)) (now (node .entry)) ⌝ }
 {
     let n = node.len();
-    let mut u = copied(node);
+    let mut u = read_node(node);
     raise_all(wcet, deadline_cap, period_max, &mut u[..n]);
     u
 }

@@ -2,7 +2,8 @@ use native.Mathlib.Omega.{arith}
 use borrow.Author.Needs.{needs}
 use mathlib.Core.Path.{sym, _∙_}
 use Prim.Native.Nat.{_<_}
-use Rattle.optimizer.proofs.Needed.{lex-lt, lex-eq, lex-gt}
+use Rattle.response.proofs.Order.{first-lt, first-eq}
+use Rattle.optimizer.proofs.Scans.{first-gt}
 use Rattle.optimizer.proofs.order.is_less.Statement.{statement}
 use Rattle.optimizer.proofs.order.is_less.Tie as tie
 
@@ -10,7 +11,7 @@ pub is-less-spec : {M : Type 1} → statement M
 is-less-spec =
     tie.close
     (tie.spec
-    (λ c. sym (lex-lt _ _ _ (c .if1 .taken)))
+    (λ c. sym (first-lt _ _ _ (c .if1 .taken)))
     (λ c κs. search needs)
-    (λ c. c .precedes .ensures ∙ sym (lex-eq _ _ _ (c .before .if2 .taken)))
-    (λ c. let a = c .before .before .before .before .args in let h : a .b-cost < a .a-cost = let g = c .if2 .left in omega arith in sym (lex-gt _ _ _ h)))
+    (λ c. c .precedes .ensures ∙ sym (first-eq _ _ _ (c .before .if2 .taken)))
+    (λ c. let a = c .before .before .before .before .args in let h : a .b-cost < a .a-cost = let g = c .if2 .left in omega arith in sym (first-gt _ _ _ h)))
