@@ -1,18 +1,17 @@
 -- From the columns' answers to CHEAPEST's: 31, 32 and the search.
 use mathlib.Core.Path.{_≡_, refl, sym, ap, _∙_}
-use mathlib.Core.Bool.{Bool, true, false, not, cond, _||_}
-use mathlib.Core.Logic.{_⊎_, inl, inr}
+use mathlib.Core.Bool.{true, false}
+use mathlib.Core.Logic.{inl, inr}
 use mathlib.Core.List.{List, [], _∷_}
 use Prim.Native.Nat.{ℕ, suc, _+_, _-_, _≤_, _<_}
 use native.Mathlib.Omega.{arith}
-use lib.Dec.{eqb, ltb, leb}
 use lib.ListN.{length, take, replicate, length-map}
-use borrow.Author.Tests.{eqb-true, eq-eqb, ne-eqb, lt-leb, lt-ltb, le-ltb}
+use borrow.Author.Tests.{eq-eqb, ne-eqb, lt-leb, lt-ltb, le-ltb}
 use Rattle.plan.specs.declared.record.Task.{Task}
 use Rattle.plan.specs.declared.reader.Loaded.{Loaded}
 use Rattle.plan.specs.Promises.{Loads}
-use Rattle.plan.specs.Faults.{Fault, fault, none, passed, orElse, firstFault, firstFrom}
-use Rattle.plan.specs.Tasks.{periodMaxs, weights}
+use Rattle.plan.specs.Faults.{Fault, fault, none, passed, firstFault, firstFrom}
+use Rattle.plan.specs.Tasks.{periodMaxs}
 use Rattle.plan.specs.Layout.{taskCount}
 use Rattle.plan.specs.Files.{fileFault, tasksOf}
 use Rattle.plan.proofs.Rules.{or-next, or-here, run-if, run-next}
@@ -20,17 +19,15 @@ use Rattle.plan.proofs.Accepted.{accepted-areas, accepted-sane, tasks-length}
 use Rattle.plan.proofs.Loading.{file-number}
 use Rattle.response.specs.Analysis.{Timing, timing, timingOf, ownDemand, deadline, schedulable, responseTimes, firstMissed}
 use Rattle.response.specs.Inner.{Limits}
-use Rattle.response.specs.Promises.{spaceFault}
 use Rattle.response.proofs.Bounds.{maxs-within}
 use Rattle.response.proofs.Plans.{ranged, limits-within, loaded-accepted, loaded-plan}
-use Rattle.response.proofs.Tests.{bool, eq-or-ne, both, not-false}
+use Rattle.response.proofs.Tests.{eq-or-ne, both, not-false}
 use Rattle.response.proofs.Missed.{schedulable-first, first-schedulable}
 use Rattle.optimizer.specs.declared.cheapest.Answer.{Answer}
-use Rattle.optimizer.specs.Rule.{End}
 use Rattle.optimizer.specs.Search.{problem, problemOf, search}
 use Rattle.optimizer.specs.Claims.{Settles}
 use Rattle.optimizer.specs.Inner.{ColumnsOf, Ends}
-use Rattle.optimizer.specs.Promises.{workFault, callFault, aloneFault, noneFault, tasksFault, roomOf, Outcome, refused, searched, concluded, outcome, isSearched, Answers, Plans}
+use Rattle.optimizer.specs.Promises.{callFault, aloneFault, noneFault, tasksFault, roomOf, refused, concluded, outcome, isSearched, Answers, Plans}
 use Rattle.optimizer.proofs.Guarantees.{search-optimal}
 use Rattle.optimizer.proofs.Settled.{sound, call-accepted, tasks-pass, settles-refused, settles-searched}
 
@@ -87,7 +84,7 @@ module _ {ts : List Task} {wcet caps mins maxs ws : List ℕ} (g : ColumnsOf ts 
         rw (eq-eqb (tasksFault ts .number) 0 z) (record { number = f .number; place = f .place; price = rw (g .weights-is) at (f .price); rounds = f .rounds; bound = f .bound; periods = f .periods; work = rw k c })
 
 -- a refusal, of the tasks or before
-pub answers-refused : (f : Fault) (n p : ℕ) (o w : List ℕ) → f ≡ fault n p → (n ≡ 0 → ⊥) → n < 33 → Answers (refused f) o o w w (record { number = n; place = p; cost = 0; rounds = 0; bound = 0 })
+answers-refused : (f : Fault) (n p : ℕ) (o w : List ℕ) → f ≡ fault n p → (n ≡ 0 → ⊥) → n < 33 → Answers (refused f) o o w w (record { number = n; place = p; cost = 0; rounds = 0; bound = 0 })
 answers-refused f n p o w e h l = rw e (record { number = refl; place = refl; price = refl; rounds = refl; bound = refl; periods = rw (ne-eqb n 0 h); work = rw (ne-eqb n 0 h, lt-leb 33 n l) })
 
 pub concluded-refused : (ts : List Task) (budget room n p : ℕ) (o w : List ℕ) → tasksFault ts ≡ fault n p → (n ≡ 0 → ⊥) → n < 33 → Answers (concluded ts budget room) o o w w (record { number = n; place = p; cost = 0; rounds = 0; bound = 0 })

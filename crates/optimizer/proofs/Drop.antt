@@ -6,10 +6,10 @@ use mathlib.Core.List.{List, []}
 use Prim.Native.Nat.{ℕ, suc, _+_, _-_, _≤_, _<_}
 use native.Mathlib.Numerals.{add-one}
 use native.Mathlib.Omega.{arith}
-use lib.Dec.{eqb, ltb}
+use lib.Dec.{eqb}
 use lib.ListN.{length, getD, set, drop, replicate, length-set, drop-of-length-le, getD-replicate, List·getD-eq-default}
 use lib.Seq.{getD-set-same, getD-set-other, drop-cons}
-use borrow.Author.Tests.{eqb-true, eqb-false, ltb-true, ltb-false}
+use borrow.Author.Tests.{eqb-true, eqb-false}
 use Rattle.response.specs.Assignments.{dominates}
 use Rattle.response.proofs.Tests.{bool, le-or-lt, eq-or-ne}
 use Rattle.response.proofs.Dominance.{at-most-dominates, not-dominates}

@@ -5,8 +5,8 @@ use Prim.Native.Nat.{ℕ}
 use Rattle.plan.specs.declared.record.Task.{Task}
 use Rattle.response.specs.Analysis.{timingOf, responseTimes, demand, climbFrom, responseTime, schedulable}
 use Rattle.optimizer.specs.Nodes.{leastOf}
-use Rattle.optimizer.specs.Rule.{End, ended, searchFrom}
-use Rattle.optimizer.specs.Search.{Problem, problemOf, mua, children, search}
+use Rattle.optimizer.specs.Rule.{ended, searchFrom}
+use Rattle.optimizer.specs.Search.{problemOf, mua, children, search}
 
 abbrev task : ℕ → ℕ → ℕ → ℕ → ℕ → Task
 task c l h k w = record { wcet = c; «period_min» = l; «period_max» = h; «deadline_cap» = k; weight = w }

@@ -1,7 +1,7 @@
 -- The loop over the work space: what holds between rounds, what a taken node gives, and how each way out ends it.
 use mathlib.Core.Path.{_≡_, refl, sym, ap, _∙_}
 use mathlib.Core.Bool.{Bool, true, false, cond}
-use mathlib.Core.List.{List, [], _∷_, _++_}
+use mathlib.Core.List.{List, [], _++_}
 use Prim.Native.Nat.{ℕ, suc, _+_, _-_, _*_, _≤_, _<_}
 use native.Mathlib.Nat.{mul-le-mul-right}
 use native.Mathlib.Numerals.{add-one}
@@ -10,20 +10,19 @@ use lib.Dec.{eqb, ltb}
 use lib.ListN.{length, getD, take, length-map}
 use borrow.Author.Tests.{ltb-true, ltb-false}
 use Rattle.plan.specs.declared.record.Task.{Task}
-use Rattle.plan.specs.Tasks.{maxTasks, maxTicks, maxWeight, wcets, deadlineCaps, periodMins, periodMaxs, weights}
-use Rattle.response.specs.Analysis.{timing, timingOf, schedulable}
+use Rattle.plan.specs.Tasks.{maxWeight, periodMaxs, weights}
+use Rattle.response.specs.Analysis.{timing, schedulable}
 use Rattle.response.specs.Assignments.{cost}
 use Rattle.response.specs.Inner.{Limits}
 use Rattle.response.proofs.Bounds.{Within}
 use Rattle.response.proofs.Plans.{sane-at, limits-within}
-use Rattle.optimizer.specs.declared.cheapest.Answer.{Answer}
 use Rattle.optimizer.specs.declared.children.Listing.{Listing}
 use Rattle.optimizer.specs.declared.children.Listing.the-variants.{Listed, Full}
 use Rattle.optimizer.specs.Nodes.{leastOf, without, kept, occurrences, SameNodes}
 use Rattle.optimizer.specs.Rule.{End, ended}
 use Rattle.optimizer.specs.Search.{problem, search, mua, childrenFrom}
 use Rattle.optimizer.specs.Inner.{nodes, Open, Taken, Priced, HasRoom, Above, keptChildren, openAfter, Lists, ColumnsOf, Ends}
-use Rattle.optimizer.specs.Mua.{Columns, Unschedulable}
+use Rattle.optimizer.specs.Mua.{Unschedulable}
 use Rattle.optimizer.proofs.Space.{length-nodes}
 use Rattle.optimizer.proofs.Maximal.{Sound, FailsAbove, mua-fails}
 use Rattle.optimizer.proofs.Branching.{over}
@@ -56,7 +55,7 @@ module _ {ts : List Task} {wcet caps mins maxs ws : List ℕ} (g : ColumnsOf ts 
   pub record Looping (budget room size : ℕ) (work : List ℕ) (count rounds : ℕ) : Type 0 where
     pub few : count ≤ room
     pub long : length work ≡ size
-    pub running : Running ts test budget room rounds (nodes count (length ws) work)
+    running : Running ts test budget room rounds (nodes count (length ws) work)
 
   abbrev target : ℕ → ℕ → End (Unit {0})
   target budget room = search (problem test mins maxs ws) budget room

@@ -1,5 +1,5 @@
 -- The open nodes as a multiset: how often a node is listed, under each change of the list; what depends on that alone.
-use mathlib.Core.Path.{_≡_, refl, sym, ap, _∙_}
+use mathlib.Core.Path.{_≡_, refl, sym, ap}
 use mathlib.Core.Bool.{true, false, cond, false≢true}
 use mathlib.Core.Logic.{_⊎_, inl, inr}
 use mathlib.Core.List.{List, [], _∷_, _++_}
@@ -134,12 +134,6 @@ kept-le p cs ps = let k = occurrences-kept p cs ps in elim (bool (dominatesSome 
 module _ (ps qs : List (List ℕ)) (s : SameNodes ps qs) where
   pub same-nodes-sym : SameNodes qs ps
   same-nodes-sym p = sym (s p)
-
-  pub same-nodes-trans : (rs : List (List ℕ)) → SameNodes qs rs → SameNodes ps rs
-  same-nodes-trans rs t p = s p ∙ t p
-
-  pub same-nodes-append : (rs : List (List ℕ)) → SameNodes (ps ++ rs) (qs ++ rs)
-  same-nodes-append rs p = omega (arith, occurrences-append p ps rs, occurrences-append p qs rs, s p)
 
   pub same-nodes-without : (q : List ℕ) → SameNodes (without q ps) (without q qs)
   same-nodes-without q p = omega (arith, occurrences-without p q ps, occurrences-without p q qs, s p)

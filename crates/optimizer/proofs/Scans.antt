@@ -16,7 +16,7 @@ use Rattle.optimizer.specs.Nodes.{leastFrom, leastOf}
 use Rattle.optimizer.specs.Inner.{nodeAt, nodes, Priced, Open, IsLeast}
 use Rattle.optimizer.proofs.Space.{in-space, length-node, length-nodes, nodes-at}
 
-pub cost-none : (ws : List ℕ) → cost ws [] ≡ 0
+cost-none : (ws : List ℕ) → cost ws [] ≡ 0
 cost-none [] = refl
 cost-none (w ∷ ws) = refl
 

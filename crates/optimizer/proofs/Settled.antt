@@ -1,31 +1,29 @@
 -- Demand 3, of the outcome that the definitions give.
-use mathlib.Core.Path.{_≡_, refl, sym, ap, _∙_}
-use mathlib.Core.Bool.{Bool, true, false, not, cond, true≢false}
+use mathlib.Core.Path.{_≡_, sym, ap, _∙_}
+use mathlib.Core.Bool.{Bool, true, false, not, true≢false}
 use mathlib.Core.Logic.{_⊎_, inl, inr}
 use mathlib.Core.List.{List, [], _∷_}
-use Prim.Native.Nat.{ℕ, suc, _≤_, _<_}
+use Prim.Native.Nat.{ℕ, _<_}
 use native.Mathlib.Omega.{arith}
-use lib.Dec.{eqb, ltb}
+use lib.Dec.{ltb}
 use lib.ListN.{length, length-map}
-use borrow.Author.Tests.{eqb-true, eq-eqb, ltb-true, not-true, not-false}
+use borrow.Author.Tests.{eqb-true, eq-eqb, ltb-true, not-false}
 use Rattle.plan.specs.declared.record.Task.{Task}
-use Rattle.plan.specs.Faults.{Fault, fault, faultIf, passed, firstFault, firstFrom}
-use Rattle.plan.specs.Tasks.{periodMaxs, weights}
-use Rattle.plan.specs.Files.{fileFault, accepted, tasksOf}
+use Rattle.plan.specs.Faults.{Fault, passed, firstFault, firstFrom}
+use Rattle.plan.specs.Tasks.{periodMaxs}
+use Rattle.plan.specs.Files.{fileFault, accepted}
 use Rattle.plan.proofs.Rules.{or-first, or-second, or-next, or-here, if-passed, run-some}
-use Rattle.plan.proofs.Accepted.{AllSane, accepted-sane}
-use Rattle.response.specs.Analysis.{timingOf, ownDemand, deadline, meets, responseTime, schedulable}
-use Rattle.response.specs.Assignments.{cost, less, withinBounds, assignmentCount}
+use Rattle.plan.proofs.Accepted.{AllSane}
+use Rattle.response.specs.Analysis.{timingOf, ownDemand, deadline, schedulable}
 use Rattle.response.specs.Promises.{spaceFault}
-use Rattle.response.proofs.Tests.{bool, eq-or-ne, both}
+use Rattle.response.proofs.Tests.{bool, eq-or-ne}
 use Rattle.response.proofs.Bounds.{maxs-within, true-within}
 use Rattle.response.proofs.Exactness.{response-past}
 use Rattle.response.proofs.Sustainable.{schedulable-none}
 use Rattle.response.proofs.Plans.{ranged, sustainable-within}
-use Rattle.optimizer.specs.Rule.{End}
 use Rattle.optimizer.specs.Search.{problemOf, search}
-use Rattle.optimizer.specs.Claims.{Feasible, Settles}
-use Rattle.optimizer.specs.Promises.{workFault, callFault, aloneFault, noneFault, tasksFault, roomOf, Outcome, refused, searched, outcome}
+use Rattle.optimizer.specs.Claims.{Settles}
+use Rattle.optimizer.specs.Promises.{workFault, callFault, aloneFault, noneFault, tasksFault, searched}
 use Rattle.optimizer.proofs.Maximal.{Sound}
 use Rattle.optimizer.proofs.Guarantees.{infeasible, search-optimal, search-rounds, search-answers, search-budget}
 

@@ -1,13 +1,13 @@
 -- The nodes that a work space holds, under writing a stretch, adding a node and moving the last one.
 use mathlib.Core.Path.{_≡_, refl, sym, _∙_, ap}
 use mathlib.Core.Logic.{inl, inr}
-use mathlib.Core.List.{List, [], _∷_, _++_, append-assoc, append-nil}
+use mathlib.Core.List.{List, [], _∷_, _++_, append-assoc}
 use Prim.Native.Nat.{ℕ, zero, suc, _+_, _-_, _*_, _≤_, _<_}
 use native.Mathlib.Nat.{suc-mul, zero-mul, zero-add, add-comm, add-assoc, mul-le-mul-right}
 use native.Mathlib.Numerals.{add-one}
 use native.Mathlib.Omega.{arith}
-use lib.ListN.{length, getD, take, drop, set, length-drop, length-set, drop-of-length-le}
-use lib.Seq.{set-at, length-take-le, take-add, take-all, drop-drop, take-at, drop-at, set-append-left, getD-set-same, getD-set-other}
+use lib.ListN.{length, getD, take, drop, set, length-drop, length-set}
+use lib.Seq.{set-at, length-take-le, take-add, drop-drop, take-at, drop-at, set-append-left, getD-set-same, getD-set-other}
 use borrow.Rule.Slice.PartMut.{putMid}
 use Rattle.response.proofs.Tests.{eq-or-ne}
 use Rattle.optimizer.specs.Nodes.{occurrences, without, SameNodes}
@@ -41,7 +41,7 @@ put-back at work {node} e = let k : at + length node - at ≡ length node = omeg
 put-split : (n m : ℕ) (work node : List ℕ) → put work (n + m) node ≡ take n work ++ put (drop n work) m node
 put-split n m work node = rw (take-add n m work, append-assoc, drop-drop, add-assoc)
 
-pub nodes-put : (count n : ℕ) (work : List ℕ) (k : ℕ) (node : List ℕ) → k < count → count * n ≤ length work → length node ≡ n
+nodes-put : (count n : ℕ) (work : List ℕ) (k : ℕ) (node : List ℕ) → k < count → count * n ≤ length work → length node ≡ n
     → nodes count n (put work (k * n) node) ≡ set (nodes count n work) k node
 nodes-put zero n work k node h r e = absurd (omega arith)
 nodes-put (suc count) n work zero node h r e =
@@ -58,7 +58,7 @@ nodes-suc (suc count) n work =
     ap (λ l. take n work ∷ l) (rw (suc-mul count n, add-comm (count * n) n, ← drop-drop (count * n) n work) (nodes-suc count n (drop n work)))
 
 -- a node written after the others
-pub nodes-append : (count n : ℕ) (work node : List ℕ) → count * n + n ≤ length work → length node ≡ n
+nodes-append : (count n : ℕ) (work node : List ℕ) → count * n + n ≤ length work → length node ≡ n
     → nodes (count + 1) n (put work (count * n) node) ≡ nodes count n work ++ (node ∷ [])
 nodes-append count n work node r e =
     rw (add-one count)
@@ -70,7 +70,7 @@ pub first-node : {n : ℕ} (work : List ℕ) {work′ node : List ℕ} → lengt
 first-node {n} work {work′} {node} e f = rw (f, zero-mul) (take-at node (drop (0 + length node) work) n e)
 
 -- and one of its periods set
-pub set-put : (at : ℕ) (work node : List ℕ) (i v : ℕ) → at ≤ length work → i < length node → set (put work at node) (at + i) v ≡ put work at (set node i v)
+set-put : (at : ℕ) (work node : List ℕ) (i v : ℕ) → at ≤ length work → i < length node → set (put work at node) (at + i) v ≡ put work at (set node i v)
 set-put zero work node i v r h = rw (zero-add i, set-append-left node (drop (0 + length node) work) i v h, length-set node i v)
 set-put (suc at) [] node i v r h = absurd (omega arith)
 set-put (suc at) (x ∷ work) node i v r h =
@@ -88,7 +88,7 @@ last-set : (ps : List (List ℕ)) (k c : ℕ) (q : List ℕ) → k < length ps �
 last-set ps k c q h e = elim (eq-or-ne c k) [ inl t ↦ rw t (getD-set-same ps k q [] h) | inr t ↦ getD-set-other ps k c q [] t ∙ e ]
 
 -- the last node moved into stretch k: the one that was there is no longer open
-pub nodes-remove : (count n : ℕ) (work : List ℕ) (k : ℕ) → k < count → count * n ≤ length work
+nodes-remove : (count n : ℕ) (work : List ℕ) (k : ℕ) → k < count → count * n ≤ length work
     → SameNodes (nodes (count - 1) n (put work (k * n) (nodeAt work n (count - 1)))) (without (nodeAt work n k) (nodes count n work))
 nodes-remove zero n work k h r p = absurd (omega arith)
 nodes-remove (suc count) n work k h r p =

@@ -1,6 +1,6 @@
 -- Demand 3, over the time test and not over the search: of the numbers that a call returns and the periods that it writes.
 use mathlib.Core.Path.{_≡_}
-use mathlib.Core.Bool.{true, false}
+use mathlib.Core.Bool.{true}
 use mathlib.Core.Logic.{_⊎_}
 use mathlib.Core.List.{List}
 use Prim.Native.Nat.{ℕ, _≤_}

@@ -4,7 +4,7 @@ use mathlib.Core.Bool.{Bool, true, false, cond}
 use mathlib.Core.List.{List, [], _∷_, _++_}
 use Prim.Native.Nat.{ℕ, zero, suc, _+_, _-_, _*_, _≤_, _<_}
 use lib.Dec.{eqb, ltb}
-use lib.ListN.{length, getD, take, drop, replicate}
+use lib.ListN.{length, getD, take, drop}
 use Rattle.plan.specs.declared.record.Task.{Task}
 use Rattle.plan.specs.Tasks.{maxTasks, maxWeight, wcets, deadlineCaps, periodMins, periodMaxs, weights}
 use Rattle.plan.proofs.Accepted.{AllSane}

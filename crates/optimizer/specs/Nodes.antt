@@ -1,8 +1,8 @@
 -- Open nodes (document 01: the corners on the list): period assignments, of which the order of listing does not matter.
 use mathlib.Core.Path.{_≡_}
-use mathlib.Core.Bool.{Bool, true, false, _||_, cond}
+use mathlib.Core.Bool.{Bool, false, _||_, cond}
 use mathlib.Core.List.{List, [], _∷_}
-use Prim.Native.Nat.{ℕ, suc, _+_}
+use Prim.Native.Nat.{ℕ, _+_}
 use Rattle.plan.specs.Names.{same}
 use Rattle.response.specs.Assignments.{less, dominates}
 

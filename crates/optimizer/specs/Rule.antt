@@ -1,6 +1,6 @@
 -- The step rule, once, over what a round does to a node and over a state that rounds carry along.
 use mathlib.Core.Bool.{Bool, true, false}
-use mathlib.Core.List.{List, [], _∷_, _++_}
+use mathlib.Core.List.{List, [], _++_}
 use Prim.Native.Nat.{ℕ, zero, suc, _+_}
 use lib.Dec.{ltb}
 use lib.ListN.{length}

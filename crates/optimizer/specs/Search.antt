@@ -1,7 +1,7 @@
 -- CHEAPEST's rule: the maximal unschedulable assignment (document 01: the wall), children, the search.
 use mathlib.Core.Bool.{Bool, true, false}
 use mathlib.Core.List.{List, [], _∷_}
-use Prim.Native.Nat.{ℕ, zero, suc, _+_, _-_}
+use Prim.Native.Nat.{ℕ, zero, suc, _-_}
 use lib.Dec.{ltb}
 use lib.ListN.{length, getD, set}
 use Rattle.plan.specs.declared.record.Task.{Task}

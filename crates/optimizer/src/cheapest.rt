@@ -4,10 +4,10 @@ ghost use Prim.Native.Nat.{_≤_, _/_};
 ghost use lib.Dec.{leb};
 ghost use lib.ListN.{length};
 ghost use Rattle.plan.specs.declared.record.Task as T;
-ghost use Rattle.plan.specs.Faults.{fault, faultIf, firstFrom};
+ghost use Rattle.plan.specs.Faults.{faultIf, firstFrom};
 ghost use Rattle.response.specs.Analysis.{timing};
 ghost use Rattle.optimizer.specs.Inner.{ColumnsOf, Columns};
-ghost use Rattle.optimizer.specs.Promises.{aloneFault, refused, concluded, Answers, Plans};
+ghost use Rattle.optimizer.specs.Promises.{aloneFault, concluded, Answers, Plans};
 use super::search::search;
 use response::first_missed;
 

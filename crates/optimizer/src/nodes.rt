@@ -1,7 +1,7 @@
 use super::order;
 use plan::Plan;
 ghost use mathlib.Core.Path.{_≡_};
-ghost use Prim.Native.Nat.{_+_, _-_, _*_, _≤_, _<_};
+ghost use Prim.Native.Nat.{_+_, _-_, _*_, _≤_};
 ghost use lib.ListN.{length, take, replicate};
 ghost use Rattle.plan.specs.Tasks.{maxTasks};
 ghost use Rattle.optimizer.specs.Nodes.{without, SameNodes};

@@ -1,22 +1,22 @@
 -- What is true of an accepted file: its areas, its tasks within their limits, its names.
-use mathlib.Core.Path.{_≡_, refl, sym, ap, _∙_}
-use mathlib.Core.Bool.{Bool, true, false, _&&_, not, cond, false≢true, true≢false}
+use mathlib.Core.Path.{_≡_, sym, _∙_}
+use mathlib.Core.Bool.{true, false, _&&_, not, cond, true≢false}
 use mathlib.Core.Logic.{inl, inr}
-use mathlib.Core.List.{List, [], _∷_, map}
-use Prim.Native.Nat.{ℕ, zero, suc, _+_, _-_, _*_, _≤_, _<_}
+use mathlib.Core.List.{List, [], _∷_}
+use Prim.Native.Nat.{ℕ, zero, suc, _+_, _-_, _≤_, _<_}
 use native.Mathlib.Omega.{arith}
-use lib.Dec.{eqb, ltb, leb}
-use lib.ListN.{length, getD, take, drop}
+use lib.Dec.{ltb, leb}
+use lib.ListN.{length, take, drop}
 use lib.Seq.{take-take, length-take-le}
 use lib.ListN.{length-drop}
-use borrow.Author.Tests.{eq-eqb, ne-eqb, eqb-true, leb-true, ltb-false, not-false}
+use borrow.Author.Tests.{eqb-true, leb-true, ltb-false, not-false}
 use Rattle.plan.specs.declared.record.Task.{Task}
 use Rattle.plan.specs.declared.reader.Loaded.{Loaded}
-use Rattle.plan.specs.Faults.{Fault, passed, faultIf, firstFault, firstFrom}
+use Rattle.plan.specs.Faults.{faultIf, firstFault}
 use Rattle.plan.specs.Tasks.{maxTasks, maxTicks, maxWeight, between, withinLimits}
 use Rattle.plan.specs.Layout.{taskCount}
-use Rattle.plan.specs.Names.{nameStart, nameField, nameOk, withoutZeros}
-use Rattle.plan.specs.Files.{taskOf, rowFault, taskFault, layoutFault, gapFault, tasksFault, sameNameFault, fileFault, accepted, tasksFrom, tasksOf, isNamed, nameOf}
+use Rattle.plan.specs.Names.{nameStart, nameField, nameOk}
+use Rattle.plan.specs.Files.{taskOf, rowFault, taskFault, layoutFault, gapFault, tasksFault, sameNameFault, fileFault, accepted, tasksFrom, tasksOf, isNamed}
 use Rattle.plan.specs.Inner.{areasOf, AreasOf, nameLength}
 use Rattle.plan.specs.Promises.{Names, Loads}
 use Rattle.plan.proofs.Rules.{bool, or-first, or-second, if-passed, run-passed, and-left, and-right}

@@ -1,6 +1,6 @@
 -- Tasks decoded one by one: what a row's answer and a name say of the task's rules, and the plan so far.
 use mathlib.Core.Path.{_≡_, refl, sym, ap, _∙_}
-use mathlib.Core.Bool.{true, false, cond}
+use mathlib.Core.Bool.{true, false}
 use mathlib.Core.Logic.{inl, inr}
 use mathlib.Core.List.{List, [], _∷_, _++_}
 use Prim.Native.Nat.{ℕ, zero, suc, _+_, _-_, _<_}
@@ -9,10 +9,9 @@ use lib.Dec.{ltb}
 use lib.ListN.{length}
 use borrow.Author.Tests.{ne-eqb}
 use Rattle.plan.specs.declared.record.Task.{Task}
-use Rattle.plan.specs.declared.rows.Row.{Row}
 use Rattle.plan.specs.declared.rows.Row.the-variants.{Decoded, Refused}
 use Rattle.plan.specs.declared.reader.Loaded.{Loaded}
-use Rattle.plan.specs.Faults.{Fault, fault, none, passed, firstFrom}
+use Rattle.plan.specs.Faults.{fault, none, firstFrom}
 use Rattle.plan.specs.Tasks.{withinLimits}
 use Rattle.plan.specs.Layout.{taskCount}
 use Rattle.plan.specs.Names.{nameField, nameOk}

@@ -1,14 +1,14 @@
 -- Fields of n bytes in a file, and what names are made of.
 use mathlib.Core.Path.{_≡_, refl, sym, ap, _∙_}
-use mathlib.Core.Bool.{Bool, true, false, _&&_, or-true, false≢true}
-use mathlib.Core.Logic.{_⊎_, inl, inr}
+use mathlib.Core.Bool.{true, false, _&&_, or-true, false≢true}
+use mathlib.Core.Logic.{inl, inr}
 use mathlib.Core.List.{List, [], _∷_}
 use Prim.Native.Nat.{ℕ, zero, suc, _+_, _-_, _≤_, _<_}
 use native.Mathlib.Omega.{arith}
 use lib.Dec.{eqb, leb}
 use lib.ListN.{length, getD, take, drop}
 use lib.Seq.{drop-cons, drop-drop, take-nil}
-use borrow.Author.Tests.{eq-eqb, ne-eqb, le-leb, leb-true}
+use borrow.Author.Tests.{ne-eqb, le-leb, leb-true}
 use Rattle.plan.specs.Names.{isNameByte, allZero, nameThenZeros, nameOk, withoutZeros, nameField, same, namedEarlier}
 use Rattle.plan.specs.Inner.{nameLength}
 use Rattle.plan.proofs.Rules.{bool, eq-or-ne, and-left, and-right}

@@ -1,6 +1,6 @@
 -- From the layout's answer to its rules, and from the rules in their order to the file's refusal.
 use mathlib.Core.Path.{_≡_, refl, sym, ap, _∙_}
-use mathlib.Core.Bool.{Bool, true, false, _&&_, _||_, not, cond, false≢true}
+use mathlib.Core.Bool.{Bool, true, false, _||_, not, false≢true}
 use mathlib.Core.Logic.{inl, inr}
 use mathlib.Core.List.{List, [], _∷_}
 use Prim.Native.Nat.{ℕ, suc, _-_, _≤_}
@@ -11,11 +11,11 @@ use borrow.Author.Tests.{eq-eqb, ne-eqb, eqb-true, eqb-false, leb-true, ltb-fals
 use Rattle.plan.specs.declared.layout.Areas.{Areas}
 use Rattle.plan.specs.declared.layout.Layout.the-variants.{Located, Broken}
 use Rattle.plan.specs.declared.reader.Loaded.{Loaded}
-use Rattle.plan.specs.Faults.{Fault, fault, none, faultIf, passed, orElse, firstFault}
+use Rattle.plan.specs.Faults.{fault, none, faultIf, passed, orElse, firstFault}
 use Rattle.plan.specs.Tasks.{between, withinLimits}
 use Rattle.plan.specs.Layout.{version, taskCount, totalLength, rowsAt, rowsEnd, namesAt, namesEnd, outside, overlap}
 use Rattle.plan.specs.Names.{nameField, nameOk, namedEarlier}
-use Rattle.plan.specs.Files.{lengthFault, versionFault, countFault, totalFault, rowsFault, namesFault, overlapFault, layoutFault, isStray, strayFault, gapFault, taskOf, rowFault, taskFault, tasksFault, repeatFault, sameNameFault, fileFault, accepted, tasksOf}
+use Rattle.plan.specs.Files.{lengthFault, versionFault, countFault, totalFault, rowsFault, namesFault, overlapFault, layoutFault, isStray, strayFault, gapFault, taskOf, rowFault, taskFault, tasksFault, repeatFault, sameNameFault, fileFault}
 use Rattle.plan.specs.Inner.{areasOf, laidOut, layoutNumber, layoutPlace, AreasOf}
 use Rattle.plan.specs.Promises.{Refuses, Decodes, Loads}
 use Rattle.plan.proofs.Rules.{bool, or-next, or-here, or-first, or-second, if-passed, and-left, and-right, run-none, if-le, or-le, run-le}

@@ -1,12 +1,12 @@
 -- The first broken rule: of two, of a list, of a run.
 use mathlib.Core.Path.{_≡_, refl, sym, ap, _∙_}
-use mathlib.Core.Bool.{Bool, true, false, _&&_, cond, false≢true}
+use mathlib.Core.Bool.{Bool, true, false, _&&_, false≢true}
 use mathlib.Core.Logic.{_⊎_, inl, inr}
 use Prim.Native.Nat.{ℕ, zero, suc, _+_, _-_, _≤_, _<_}
 use native.Mathlib.Omega.{arith}
 use lib.Dec.{eqb}
 use borrow.Author.Tests.{eq-eqb, ne-eqb, eqb-true, eqb-false}
-use Rattle.plan.specs.Faults.{Fault, fault, none, faultIf, passed, orElse, firstFrom}
+use Rattle.plan.specs.Faults.{Fault, fault, none, faultIf, orElse, firstFrom}
 
 -- cases, to be taken apart in place: elim (bool t) [ inl e ↦ .. | inr e ↦ .. ]
 pub bool : (t : Bool) → (t ≡ true) ⊎ (t ≡ false)

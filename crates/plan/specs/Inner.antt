@@ -1,8 +1,8 @@
 -- What the inner functions promise, for their callers' proofs. A reader of the public calls needs none of it.
 use mathlib.Core.Path.{_≡_}
-use mathlib.Core.Bool.{Bool, true, false, cond}
+use mathlib.Core.Bool.{true, false, cond}
 use mathlib.Core.List.{List, [], _∷_}
-use Prim.Native.Nat.{ℕ, zero, suc, _≤_}
+use Prim.Native.Nat.{ℕ, suc, _≤_}
 use lib.Dec.{ltb}
 use lib.ListN.{length}
 use Rattle.plan.specs.declared.record.Task.{Task}
@@ -11,7 +11,7 @@ use Rattle.plan.specs.declared.rows.Row.the-variants.{Decoded, Refused}
 use Rattle.plan.specs.declared.layout.Areas.{Areas}
 use Rattle.plan.specs.declared.layout.Layout.{Layout}
 use Rattle.plan.specs.declared.layout.Layout.the-variants.{Located, Broken}
-use Rattle.plan.specs.Faults.{Fault, passed}
+use Rattle.plan.specs.Faults.{passed}
 use Rattle.plan.specs.Tasks.{withinLimits, maxTasks, maxFile}
 use Rattle.plan.specs.Layout.{headerWidth, taskCount, rowsAt, rowsEnd, namesAt, namesEnd}
 use Rattle.plan.specs.Names.{isNameByte}

@@ -1,14 +1,14 @@
 -- What the public calls promise, of any bytes.
 use mathlib.Core.Path.{_≡_}
-use mathlib.Core.Bool.{Bool, true, false, cond}
-use mathlib.Core.List.{List, [], _∷_, map}
-use Prim.Native.Nat.{ℕ, _+_, _-_, _*_, _≤_, _<_}
+use mathlib.Core.Bool.{true, cond}
+use mathlib.Core.List.{List, []}
+use Prim.Native.Nat.{ℕ, _+_, _-_, _<_}
 use lib.ListN.{length, take}
 use Rattle.plan.specs.declared.record.Task.{Task}
 use Rattle.plan.specs.declared.record.Plan.{Plan}
 use Rattle.plan.specs.declared.reader.Read.{Read}
 use Rattle.plan.specs.declared.reader.Loaded.{Loaded}
-use Rattle.plan.specs.Faults.{Fault, passed}
+use Rattle.plan.specs.Faults.{passed}
 use Rattle.plan.specs.Tasks.{wcets, periodMins, periodMaxs, deadlineCaps, weights}
 use Rattle.plan.specs.Layout.{taskCount}
 use Rattle.plan.specs.Names.{nameStart}

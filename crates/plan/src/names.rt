@@ -1,9 +1,9 @@
 ghost use mathlib.Core.Path.{_≡_};
-ghost use Prim.Native.Nat.{ℕ, _+_, _*_, _≤_, _<_};
+ghost use Prim.Native.Nat.{_+_, _≤_, _<_};
 ghost use lib.Dec.{leb};
 ghost use lib.ListN.{length, take, drop};
 ghost use Rattle.plan.specs.Faults.{faultIf};
-ghost use Rattle.plan.specs.Names.{isNameByte, allZero, nameOk, nameField, same, namedEarlier};
+ghost use Rattle.plan.specs.Names.{isNameByte, allZero, nameOk, same, namedEarlier};
 ghost use Rattle.plan.specs.Files.{sameNameFault};
 ghost use Rattle.plan.specs.Inner.{AreasOf, nameLength};
 use super::layout::Areas;

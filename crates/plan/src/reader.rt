@@ -1,7 +1,4 @@
-ghost use mathlib.Core.Path.{_≡_};
-ghost use mathlib.Core.List.{List, [], _∷_, _++_};
-ghost use Prim.Native.Nat.{ℕ, _+_, _*_, _≤_, _<_};
-ghost use Rattle.plan.specs.Promises.{Reads, Names, Holds, Loads, Refuses, Decodes};
+ghost use Rattle.plan.specs.Promises.{Reads, Names, Loads, Refuses, Decodes};
 ghost use Rattle.plan.specs.Inner.{AreasOf, layoutNumber, layoutPlace};
 use super::layout::Areas;
 use super::layout::Layout;
@@ -11,7 +8,6 @@ use super::names::name_length;
 use super::names::name_ok;
 use super::names::repeated_name;
 use super::record::Plan;
-use super::record::Task;
 use super::rows::Row;
 use super::rows::number_of;
 use super::rows::row_at;

@@ -1,6 +1,6 @@
 ghost use mathlib.Core.Path.{_≡_};
 ghost use mathlib.Core.List.{List, [], _∷_, _++_};
-ghost use Prim.Native.Nat.{ℕ, _<_};
+ghost use Prim.Native.Nat.{_<_};
 ghost use Rattle.plan.specs.Tasks.{withinLimits};
 ghost use Rattle.plan.specs.Promises.{Holds};
 ghost use Rattle.plan.specs.declared.record.Task as T;

@@ -1,6 +1,6 @@
 ghost use mathlib.Core.Path.{_≡_};
 ghost use mathlib.Core.List.{List};
-ghost use Prim.Native.Nat.{ℕ, _+_, _*_, _≤_, _<_, min};
+ghost use Prim.Native.Nat.{ℕ, _*_, _≤_, _<_, min};
 ghost use lib.ListN.{length};
 ghost use Rattle.plan.specs.Tasks.{maxTicks};
 ghost use Rattle.response.specs.Analysis.{timing, ceiling, demand, responseTime, meets};

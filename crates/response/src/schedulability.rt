@@ -1,5 +1,4 @@
 ghost use mathlib.Core.Path.{_≡_};
-ghost use Prim.Native.Nat.{_≤_};
 ghost use lib.ListN.{length};
 ghost use Rattle.response.specs.Analysis.{timing, schedulable, responseTimes, firstMissed};
 ghost use Rattle.response.specs.Inner.{Limits};

@@ -4,7 +4,7 @@ use mathlib.Core.List.{List}
 use Prim.Native.Nat.{ℕ, suc, _+_, _-_, _≤_}
 use borrow.Author.Needs.{needs}
 use native.Mathlib.Omega.{arith}
-use lib.ListN.{length, getD, take, drop}
+use lib.ListN.{getD, take, drop}
 use borrow.Author.Tests.{not-true, not-false}
 use Rattle.plan.specs.Names.{isNameByte}
 use Rattle.plan.specs.Inner.{nameLength}

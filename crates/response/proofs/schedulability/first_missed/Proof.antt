@@ -1,14 +1,12 @@
 use mathlib.Core.Path.{_≡_, sym, _∙_}
-use mathlib.Core.Bool.{true, false}
-use mathlib.Core.Logic.{inl, inr}
-use mathlib.Core.List.{List}
+use mathlib.Core.Bool.{true}
 use Prim.Native.Nat.{ℕ, suc, _+_, _-_, _≤_, _<_}
 use borrow.Author.Needs.{needs}
 use native.Mathlib.Omega.{arith}
 use borrow.Author.Count.{below-more}
 use borrow.Author.Tests.{not-true, not-false}
 use lib.ListN.{length}
-use Rattle.response.specs.Analysis.{timing, meets, schedulable}
+use Rattle.response.specs.Analysis.{timing, meets}
 use Rattle.response.proofs.Sustainable.{all-schedulable}
 use Rattle.response.proofs.Missed.{schedulable-first, first-missed-is}
 use Rattle.response.proofs.schedulability.first_missed.Statement.{statement}
