@@ -26,8 +26,8 @@ use Rattle.response.proofs.Missed.{schedulable-first, first-schedulable}
 use Rattle.optimizer.specs.declared.cheapest.Answer.{Answer}
 use Rattle.optimizer.specs.Search.{problem, problemOf, search}
 use Rattle.optimizer.specs.Claims.{Settles}
-use Rattle.optimizer.specs.Inner.{ColumnsOf, Ends}
-use Rattle.optimizer.specs.Promises.{callFault, aloneFault, noneFault, tasksFault, roomOf, refused, concluded, outcome, isSearched, Answers, Plans}
+use Rattle.optimizer.specs.Inner.{ColumnsOf, Ends, Answers}
+use Rattle.optimizer.specs.Promises.{callFault, aloneFault, noneFault, tasksFault, roomOf, refused, concluded, outcome, isSearched, Plans}
 use Rattle.optimizer.proofs.Guarantees.{search-optimal}
 use Rattle.optimizer.proofs.Settled.{sound, call-accepted, tasks-pass, settles-refused, settles-searched}
 

@@ -4,7 +4,7 @@ use mathlib.Core.Bool.{Bool, true, false, cond}
 use mathlib.Core.List.{List, [], _∷_, _++_}
 use Prim.Native.Nat.{ℕ, zero, suc, _+_, _-_, _*_, _≤_, _<_}
 use lib.Dec.{eqb, ltb}
-use lib.ListN.{length, getD, take, drop}
+use lib.ListN.{length, getD, take, drop, replicate}
 use Rattle.plan.specs.declared.record.Task.{Task}
 use Rattle.plan.specs.Tasks.{maxTasks, maxWeight, wcets, deadlineCaps, periodMins, periodMaxs, weights}
 use Rattle.plan.proofs.Accepted.{AllSane}
@@ -13,6 +13,7 @@ use Rattle.optimizer.specs.Nodes.{leastOf, without, dominatesSome, kept,
 use Rattle.optimizer.specs.Search.{child, childrenFrom}
 use Rattle.response.specs.Assignments.{cost, dominates}
 use Rattle.optimizer.specs.Rule.{End}
+use Rattle.optimizer.specs.Promises.{Outcome, isSearched}
 use Rattle.optimizer.specs.declared.cheapest.Answer.{Answer}
 use Rattle.optimizer.specs.declared.children.Drops.{Drops}
 use Rattle.optimizer.specs.declared.children.Drops.the-variants.{All, One, Nothing}
@@ -141,3 +142,13 @@ pub record Ends (ws : List ℕ) (e : End (Unit {0})) (o o′ : List ℕ) (r : An
   pub rounds : r .rounds ≡ e .rounds
   pub bound : r .bound ≡ e .bound
   pub periods : o′ ≡ cond (eqb (e .number) 0) (e .periods) o
+
+-- an outcome answered, and what becomes of the two spaces
+pub record Answers (x : Outcome) (o o′ w w′ : List ℕ) (r : Answer) : Type 0 where
+  pub number : r .number ≡ x .number
+  pub place : r .place ≡ x .place
+  pub price : r .cost ≡ x .price
+  pub rounds : r .rounds ≡ x .rounds
+  pub bound : r .bound ≡ x .bound
+  pub periods : o′ ≡ cond (eqb (x .number) 0) (x .periods) o
+  pub work : w′ ≡ cond (isSearched (x .number)) (replicate (length w) 0) w

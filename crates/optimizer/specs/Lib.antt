@@ -2,7 +2,7 @@
 pub mod Nodes
 pub mod Rule
 pub mod Search
-pub mod Inner
-pub mod Mua
 pub mod Claims
 pub mod Promises
+pub mod Inner
+pub mod Mua

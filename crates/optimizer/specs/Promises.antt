@@ -89,13 +89,3 @@ pub record Plans (s : List ℕ) (budget : ℕ) (o o′ w w′ : List ℕ) (r : A
   pub work : w′ ≡ cond (isSearched (r .number)) (replicate (length w) 0) w
   -- demand 3
   pub settles : passed (callFault s (length o) (length w)) ≡ true → Settles (tasksOf s) budget (roomOf s (length w)) (r .number) (r .cost) (r .rounds) (r .bound) o′
-
--- the same without demand 3, of any outcome: what the inner functions promise
-pub record Answers (x : Outcome) (o o′ w w′ : List ℕ) (r : Answer) : Type 0 where
-  pub number : r .number ≡ x .number
-  pub place : r .place ≡ x .place
-  pub price : r .cost ≡ x .price
-  pub rounds : r .rounds ≡ x .rounds
-  pub bound : r .bound ≡ x .bound
-  pub periods : o′ ≡ cond (eqb (x .number) 0) (x .periods) o
-  pub work : w′ ≡ cond (isSearched (x .number)) (replicate (length w) 0) w

@@ -6,8 +6,8 @@ ghost use lib.ListN.{length};
 ghost use Rattle.plan.specs.declared.record.Task as T;
 ghost use Rattle.plan.specs.Faults.{faultIf, firstFrom};
 ghost use Rattle.response.specs.Analysis.{timing};
-ghost use Rattle.optimizer.specs.Inner.{ColumnsOf, Columns};
-ghost use Rattle.optimizer.specs.Promises.{aloneFault, concluded, Answers, Plans};
+ghost use Rattle.optimizer.specs.Inner.{ColumnsOf, Columns, Answers};
+ghost use Rattle.optimizer.specs.Promises.{aloneFault, concluded, Plans};
 use super::search::search;
 use response::first_missed;
 

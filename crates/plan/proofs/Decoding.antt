@@ -16,8 +16,8 @@ use Rattle.plan.specs.Tasks.{withinLimits}
 use Rattle.plan.specs.Layout.{taskCount}
 use Rattle.plan.specs.Names.{nameField, nameOk}
 use Rattle.plan.specs.Files.{taskOf, rowFault, taskFault, tasksFault, tasksFrom, tasksOf}
-use Rattle.plan.specs.Inner.{decoded, numberOf}
-use Rattle.plan.specs.Promises.{Holds, Refuses, Decodes}
+use Rattle.plan.specs.Inner.{decoded, numberOf, Refuses, Decodes}
+use Rattle.plan.specs.Promises.{Holds}
 use Rattle.plan.proofs.Rules.{bool, run-here, run-next, run-end}
 
 -- a row's answer

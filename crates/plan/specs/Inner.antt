@@ -6,6 +6,7 @@ use Prim.Native.Nat.{ℕ, suc, _≤_}
 use lib.Dec.{ltb}
 use lib.ListN.{length}
 use Rattle.plan.specs.declared.record.Task.{Task}
+use Rattle.plan.specs.declared.reader.Loaded.{Loaded}
 use Rattle.plan.specs.declared.rows.Row.{Row}
 use Rattle.plan.specs.declared.rows.Row.the-variants.{Decoded, Refused}
 use Rattle.plan.specs.declared.layout.Areas.{Areas}
@@ -15,7 +16,8 @@ use Rattle.plan.specs.Faults.{passed}
 use Rattle.plan.specs.Tasks.{withinLimits, maxTasks, maxFile}
 use Rattle.plan.specs.Layout.{headerWidth, taskCount, rowsAt, rowsEnd, namesAt, namesEnd}
 use Rattle.plan.specs.Names.{isNameByte}
-use Rattle.plan.specs.Files.{layoutFault}
+use Rattle.plan.specs.Files.{layoutFault, tasksFault, tasksOf}
+use Rattle.plan.specs.Promises.{Holds}
 
 -- the row decoder's answer, and the number of each of its cases
 abbrev pub decoded : Task → Row
@@ -57,3 +59,15 @@ pub record AreasOf (s : List ℕ) (a : Areas) : Type 0 where
 abbrev pub nameLength : List ℕ → ℕ
 nameLength [] = 0
 nameLength (b ∷ bs) = elim (isNameByte b) [ true ↦ suc (nameLength bs) | false ↦ 0 ]
+
+-- a refusal with its number and place, and no task
+pub record Refuses (number place : ℕ) (r : Loaded) : Type 0 where
+  pub numbered : r .number ≡ number
+  pub placed : r .place ≡ place
+  pub empty : Holds (r .plan) []
+
+-- rules 8 to 10 alone
+pub record Decodes (s : List ℕ) (r : Loaded) : Type 0 where
+  pub number : r .number ≡ tasksFault s .number
+  pub place : r .place ≡ tasksFault s .place
+  pub plan : Holds (r .plan) (cond (passed (tasksFault s)) (tasksOf s) [])

@@ -5,5 +5,5 @@ pub mod Tasks
 pub mod Layout
 pub mod Names
 pub mod Files
-pub mod Inner
 pub mod Promises
+pub mod Inner

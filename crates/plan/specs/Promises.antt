@@ -8,11 +8,10 @@ use Rattle.plan.specs.declared.record.Task.{Task}
 use Rattle.plan.specs.declared.record.Plan.{Plan}
 use Rattle.plan.specs.declared.reader.Read.{Read}
 use Rattle.plan.specs.declared.reader.Loaded.{Loaded}
-use Rattle.plan.specs.Faults.{passed}
 use Rattle.plan.specs.Tasks.{wcets, periodMins, periodMaxs, deadlineCaps, weights}
 use Rattle.plan.specs.Layout.{taskCount}
 use Rattle.plan.specs.Names.{nameStart}
-use Rattle.plan.specs.Files.{tasksFault, fileFault, accepted, tasksOf, isNamed, nameOf}
+use Rattle.plan.specs.Files.{fileFault, accepted, tasksOf, isNamed, nameOf}
 
 -- READ: "the file to n"; "READ's n [is] 0 when refused"
 pub record Reads (s : List ℕ) (r : Read) : Type 0 where
@@ -41,15 +40,3 @@ pub record Loads (s : List ℕ) (r : Loaded) : Type 0 where
   pub number : r .number ≡ fileFault s .number
   pub place : r .place ≡ fileFault s .place
   pub plan : Holds (r .plan) (cond (accepted s) (tasksOf s) [])
-
--- a refusal with its number and place, and no task
-pub record Refuses (number place : ℕ) (r : Loaded) : Type 0 where
-  pub numbered : r .number ≡ number
-  pub placed : r .place ≡ place
-  pub empty : Holds (r .plan) []
-
--- rules 8 to 10 alone
-pub record Decodes (s : List ℕ) (r : Loaded) : Type 0 where
-  pub number : r .number ≡ tasksFault s .number
-  pub place : r .place ≡ tasksFault s .place
-  pub plan : Holds (r .plan) (cond (passed (tasksFault s)) (tasksOf s) [])

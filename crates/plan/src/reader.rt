@@ -1,5 +1,5 @@
-ghost use Rattle.plan.specs.Promises.{Reads, Names, Loads, Refuses, Decodes};
-ghost use Rattle.plan.specs.Inner.{AreasOf, layoutNumber, layoutPlace};
+ghost use Rattle.plan.specs.Promises.{Reads, Names, Loads};
+ghost use Rattle.plan.specs.Inner.{AreasOf, layoutNumber, layoutPlace, Refuses, Decodes};
 use super::layout::Areas;
 use super::layout::Layout;
 use super::layout::layout_of;
