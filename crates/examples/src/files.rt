@@ -1,5 +1,7 @@
 ghost use mathlib.Core.Path.{_≡_};
 ghost use lib.ListN.{length};
+use super::build::four;
+use super::build::put;
 use super::print::field;
 use super::print::text;
 
@@ -505,25 +507,6 @@ fn three_tasks() -> [u8; 124] {
         0,
         0,
     ]
-}
-
-// The number v in 4 bytes from an offset on.
-fn put(file: &mut [u8], at: usize, v: u32) {
-    if file.len() < 4 {
-        return;
-    }
-    if file.len() - 4 < at {
-        return;
-    }
-    file[at] = (v % 256) as u8;
-    file[at + 1] = (v / 256 % 256) as u8;
-    file[at + 2] = (v / 65536 % 256) as u8;
-    file[at + 3] = (v / 16777216) as u8;
-}
-
-// Four bytes as a number.
-fn four(a: u8, b: u8, c: u8, d: u8) -> u32 {
-    (a as u32) + 256 * (b as u32) + 65536 * (c as u32) + 16777216 * (d as u32)
 }
 
 // Plan P with one number changed, and with two.

@@ -4,12 +4,20 @@ pub fn text(s: &[u8]) {
     io::write_all(STDOUT_FILENO, s);
 }
 
-pub fn number(n: u32) {
-    io::print_decimal(STDOUT_FILENO, n as u64);
-}
-
 // A number after a space.
 pub fn field(n: u32) {
+    wide_field(n as u64);
+}
+
+pub fn wide_field(n: u64) {
     text(b" ");
-    number(n);
+    io::print_decimal(STDOUT_FILENO, n);
+}
+
+pub fn fields(list: &[u32]) {
+    let mut i: usize = 0;
+    while i < list.len() {
+        field(list[i]);
+        i += 1;
+    }
 }
