@@ -1,11 +1,13 @@
 use super::build::build;
+use super::build::first;
 use super::build::first_mut;
 use super::print::field;
 use super::print::fields;
 use super::print::text;
 use super::print::wide_field;
+use super::times::plain;
 use super::times::plan_p;
-use super::times::plan_s;
+use super::times::sixteen;
 
 // Whether every number of a list is v.
 pub fn all(list: &[u32], v: u32) -> bool {
@@ -21,12 +23,12 @@ pub fn all(list: &[u32], v: u32) -> bool {
 
 // A work space whose numbers were 7.
 fn show_work(work: &[u32]) {
-    if all(work, 0) {
-        text(b" work zero");
-        return;
-    }
     if all(work, 7) {
         text(b" work untouched");
+        return;
+    }
+    if all(work, 0) {
+        text(b" work zero");
         return;
     }
     text(b" work left over");
@@ -84,6 +86,7 @@ fn answers() {
         b"every number at its limit",
         &[1000000, 1000000, 1000000, 1000000, 1000],
     );
+    ample(b"16 tasks of wcet 62,500 and weight 1,000", &sixteen(62500));
 }
 
 fn budgets() {
@@ -108,7 +111,21 @@ fn rooms() {
     show(b"P, work space of 3", &plan_p(), 9, 3);
     show(b"P, work space of 4", &plan_p(), 9, 4);
     show(b"P, work space of 5", &plan_p(), 9, 5);
-    show(b"S, work space of 16,000", &plan_s(), 100000, 16000);
+}
+
+// Plan S of document 01.
+fn show_s(tried: &[u8], room: usize) {
+    let rows = plain(&[20, 30, 40, 50, 60, 70]);
+    show(tried, first(&rows, 30), 100000, room);
+}
+
+// The same room for one node, and more of it.
+fn rooms_of_s() {
+    show_s(b"S, work space of 6", 6);
+    show_s(b"S, work space of 7", 7);
+    show_s(b"S, work space of 11", 11);
+    show_s(b"S, work space of 12", 12);
+    show_s(b"S, work space of 16,000", 16000);
 }
 
 // Rules 31 and 32: no periods within the bounds are schedulable.
@@ -152,6 +169,7 @@ pub fn run() {
     answers();
     budgets();
     rooms();
+    rooms_of_s();
     infeasible();
     refusals();
 }
