@@ -33,7 +33,7 @@ fn released(rows: &[u32], periods: &[u32], task: usize, now: u32) -> u32 {
     work
 }
 
-pub fn lesser(a: u32, b: u32) -> u32 {
+pub(crate) fn lesser(a: u32, b: u32) -> u32 {
     if a < b {
         return a;
     }
@@ -41,7 +41,7 @@ pub fn lesser(a: u32, b: u32) -> u32 {
 }
 
 // The response time by the clock: tick by tick, until all work released before the tick's end is done; 0 past the deadline.
-pub fn finish(rows: &[u32], periods: &[u32], task: usize) -> u32 {
+pub(crate) fn finish(rows: &[u32], periods: &[u32], task: usize) -> u32 {
     let deadline = lesser(at(periods, task), column(rows, task, 3));
     let mut work = column(rows, task, 0);
     let mut now: u32 = 0;
@@ -56,7 +56,7 @@ pub fn finish(rows: &[u32], periods: &[u32], task: usize) -> u32 {
 }
 
 // Whether a task that is there misses its deadline.
-pub fn misses(rows: &[u32], periods: &[u32], task: usize) -> bool {
+pub(crate) fn misses(rows: &[u32], periods: &[u32], task: usize) -> bool {
     if task < periods.len() {
         return finish(rows, periods, task) == 0;
     }
@@ -64,7 +64,7 @@ pub fn misses(rows: &[u32], periods: &[u32], task: usize) -> bool {
 }
 
 // The first of up to three tasks that misses its deadline, or 0.
-pub fn first_missed(rows: &[u32], periods: &[u32]) -> u32 {
+pub(crate) fn first_missed(rows: &[u32], periods: &[u32]) -> u32 {
     if misses(rows, periods, 0) {
         return 1;
     }
@@ -78,7 +78,7 @@ pub fn first_missed(rows: &[u32], periods: &[u32]) -> u32 {
 }
 
 // Adds to one of a list of counters.
-pub fn add(counts: &mut [u32], k: usize, n: u32) {
+pub(crate) fn add(counts: &mut [u32], k: usize, n: u32) {
     let before = at(counts, k);
     set(counts, k, wrapping_add_u32(before, n));
 }
@@ -159,7 +159,7 @@ fn compare_many(counts: &mut [u32]) {
     }
 }
 
-pub fn run() {
+pub(crate) fn run() {
     let mut counts = [0u32; 4];
     compare_many(&mut counts);
     text(b"response times by the clock: plans");

@@ -1,7 +1,7 @@
 ghost use Rattle.io.specs.Counts.{Counts};
 
 // The number v in 4 bytes from an offset on.
-pub fn put(file: &mut [u8], at: usize, v: u32) {
+pub(crate) fn put(file: &mut [u8], at: usize, v: u32) {
     if file.len() < 4 {
         return;
     }
@@ -15,12 +15,12 @@ pub fn put(file: &mut [u8], at: usize, v: u32) {
 }
 
 // Four bytes as a number.
-pub fn four(a: u8, b: u8, c: u8, d: u8) -> u32 {
+pub(crate) fn four(a: u8, b: u8, c: u8, d: u8) -> u32 {
     (a as u32) + 256 * (b as u32) + 65536 * (c as u32) + 16777216 * (d as u32)
 }
 
 // A number of a list, and 0 past its end.
-pub fn at(list: &[u32], i: usize) -> u32 {
+pub(crate) fn at(list: &[u32], i: usize) -> u32 {
     if i < list.len() {
         return list[i];
     }
@@ -28,21 +28,21 @@ pub fn at(list: &[u32], i: usize) -> u32 {
 }
 
 // Sets a number of a list, if the list has it.
-pub fn set(list: &mut [u32], i: usize, v: u32) {
+pub(crate) fn set(list: &mut [u32], i: usize, v: u32) {
     if i < list.len() {
         list[i] = v;
     }
 }
 
 // The first k numbers of a list, or all that it has.
-pub fn first(list: &[u32], k: usize) -> &[u32] {
+pub(crate) fn first(list: &[u32], k: usize) -> &[u32] {
     if k <= list.len() {
         return &list[..k];
     }
     list
 }
 
-pub fn first_mut(list: &mut [u32], k: usize) -> &mut [u32] {
+pub(crate) fn first_mut(list: &mut [u32], k: usize) -> &mut [u32] {
     if k <= list.len() {
         return &mut list[..k];
     }
@@ -50,7 +50,7 @@ pub fn first_mut(list: &mut [u32], k: usize) -> &mut [u32] {
 }
 
 // One of a task's numbers in rows of five: 0 wcet, 1 period_min, 2 period_max, 3 deadline_cap, 4 weight.
-pub fn column(rows: &[u32], task: usize, k: usize) -> u32 {
+pub(crate) fn column(rows: &[u32], task: usize, k: usize) -> u32 {
     if task < 16 {
         if k < 5 {
             return at(rows, 5 * task + k);
@@ -103,7 +103,7 @@ fn put_file(rows: &[u32], tasks: usize, file: &mut [u8]) {
 }
 
 // The plan file of rows of five numbers a task, written over zeros; its length, 0 if it does not fit.
-pub fn build(rows: &[u32], file: &mut [u8]) -> usize
+pub(crate) fn build(rows: &[u32], file: &mut [u8]) -> usize
     ensures { λ r. ⌜ Counts r (now (file .exit)) ⌝ }
 {
     let tasks = rows.len() / 5;

@@ -10,7 +10,7 @@ use super::times::plan_p;
 use super::times::sixteen;
 
 // Whether every number of a list is v.
-pub fn all(list: &[u32], v: u32) -> bool {
+pub(crate) fn all(list: &[u32], v: u32) -> bool {
     let mut i: usize = 0;
     while i < list.len() {
         if list[i] != v {
@@ -165,7 +165,7 @@ fn refusals() {
     show_spaces(b"rules 22 and 31", &[5, 3, 10, 4, 1], 9, 2, 1);
 }
 
-pub fn run() {
+pub(crate) fn run() {
     answers();
     budgets();
     rooms();

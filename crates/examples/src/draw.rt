@@ -6,7 +6,7 @@ use std::num::wrapping_add_u32;
 use std::num::wrapping_sub_u32;
 
 // The next number of a fixed sequence, from `least` on and one of `count`.
-pub fn draw(seed: &mut u32, least: u32, count: u32) -> u32 {
+pub(crate) fn draw(seed: &mut u32, least: u32, count: u32) -> u32 {
     let next = (((*seed as u64) * 1103515245 + 12345) % 2147483648) as u32;
     *seed = next;
     if count == 0 {
@@ -27,7 +27,7 @@ fn draw_task(seed: &mut u32, rows: &mut [u32], from: usize) {
 }
 
 // Rows of three small tasks: wcet 1 to 4, at most eight periods each, caps 1 to 24, weights 0 to 3.
-pub fn draw_plan(seed: &mut u32) -> [u32; 15]
+pub(crate) fn draw_plan(seed: &mut u32) -> [u32; 15]
     ensures { λ r. ⌜ length r ≡ 15 ⌝ }
 {
     let mut rows = [0u32; 15];
@@ -38,7 +38,7 @@ pub fn draw_plan(seed: &mut u32) -> [u32; 15]
 }
 
 // The length of the rows of one, two or three tasks.
-pub fn draw_length(seed: &mut u32) -> usize {
+pub(crate) fn draw_length(seed: &mut u32) -> usize {
     let tasks = draw(seed, 1, 3);
     if tasks == 1 {
         return 5;
@@ -50,7 +50,7 @@ pub fn draw_length(seed: &mut u32) -> usize {
 }
 
 // How many periods a task may have; 1 for a task that is not there.
-pub fn width(rows: &[u32], task: usize) -> u32 {
+pub(crate) fn width(rows: &[u32], task: usize) -> u32 {
     wrapping_add_u32(
         wrapping_sub_u32(column(rows, task, 2), column(rows, task, 1)),
         1,
@@ -66,7 +66,7 @@ fn draw_period(seed: &mut u32, rows: &[u32], periods: &mut [u32], task: usize) {
 }
 
 // Periods within the bounds, for up to three tasks.
-pub fn draw_periods(seed: &mut u32, rows: &[u32], periods: &mut [u32]) {
+pub(crate) fn draw_periods(seed: &mut u32, rows: &[u32], periods: &mut [u32]) {
     draw_period(seed, rows, periods, 0);
     draw_period(seed, rows, periods, 1);
     draw_period(seed, rows, periods, 2);

@@ -5,512 +5,92 @@ use super::build::put;
 use super::print::field;
 use super::print::text;
 
-// Plan P of document 01: rows at 16, names at 56.
-fn plan_p() -> [u8; 88]
+// A header: the version 1, the count of tasks, the offsets of the two areas, the total.
+fn header(file: &mut [u8], tasks: u32, rows: u32, names: u32, total: u32) {
+    if tasks <= 16 {
+        put(file, 0, 1 + 65536 * tasks);
+        put(file, 4, rows);
+        put(file, 8, names);
+        put(file, 12, total);
+    }
+}
+
+// A row of five numbers.
+fn row(file: &mut [u8], at: usize, wcet: u32, min: u32, max: u32, cap: u32, weight: u32) {
+    if at < 2048 {
+        put(file, at, wcet);
+        put(file, at + 4, min);
+        put(file, at + 8, max);
+        put(file, at + 12, cap);
+        put(file, at + 16, weight);
+    }
+}
+
+// The names of plan P.
+fn gauge_radio(file: &mut [u8], at: usize) {
+    if at < 2048 {
+        put(file, at, four(b'g', b'a', b'u', b'g'));
+        put(file, at + 4, b'e' as u32);
+        put(file, at + 16, four(b'r', b'a', b'd', b'i'));
+        put(file, at + 20, b'o' as u32);
+    }
+}
+
+// Plan P of document 01, over zeros, with its areas at some offsets.
+fn put_p(file: &mut [u8], rows: u32, names: u32, total: u32) {
+    if rows < 1024 {
+        if names < 1024 {
+            header(file, 2, rows, names, total);
+            row(file, rows as usize, 1, 1, 6, 1000, 1);
+            row(file, rows as usize + 20, 2, 1, 8, 1000, 1);
+            gauge_radio(file, names as usize);
+        }
+    }
+}
+
+pub(crate) fn plan_p() -> [u8; 88]
     ensures { λ r. ⌜ length r ≡ 88 ⌝ }
 {
-    [
-        1,
-        0,
-        2,
-        0,
-        16,
-        0,
-        0,
-        0,
-        56,
-        0,
-        0,
-        0,
-        88,
-        0,
-        0,
-        0,
-        1,
-        0,
-        0,
-        0,
-        1,
-        0,
-        0,
-        0,
-        6,
-        0,
-        0,
-        0,
-        232,
-        3,
-        0,
-        0,
-        1,
-        0,
-        0,
-        0,
-        2,
-        0,
-        0,
-        0,
-        1,
-        0,
-        0,
-        0,
-        8,
-        0,
-        0,
-        0,
-        232,
-        3,
-        0,
-        0,
-        1,
-        0,
-        0,
-        0,
-        103,
-        97,
-        117,
-        103,
-        101,
-        0,
-        0,
-        0,
-        0,
-        0,
-        0,
-        0,
-        0,
-        0,
-        0,
-        0,
-        114,
-        97,
-        100,
-        105,
-        111,
-        0,
-        0,
-        0,
-        0,
-        0,
-        0,
-        0,
-        0,
-        0,
-        0,
-        0,
-    ]
+    let mut f = [0u8; 88];
+    put_p(&mut f, 16, 56, 88);
+    f
 }
 
-// Plan P with its names at 16 and its rows at 48.
 fn names_first() -> [u8; 88] {
-    [
-        1,
-        0,
-        2,
-        0,
-        48,
-        0,
-        0,
-        0,
-        16,
-        0,
-        0,
-        0,
-        88,
-        0,
-        0,
-        0,
-        103,
-        97,
-        117,
-        103,
-        101,
-        0,
-        0,
-        0,
-        0,
-        0,
-        0,
-        0,
-        0,
-        0,
-        0,
-        0,
-        114,
-        97,
-        100,
-        105,
-        111,
-        0,
-        0,
-        0,
-        0,
-        0,
-        0,
-        0,
-        0,
-        0,
-        0,
-        0,
-        1,
-        0,
-        0,
-        0,
-        1,
-        0,
-        0,
-        0,
-        6,
-        0,
-        0,
-        0,
-        232,
-        3,
-        0,
-        0,
-        1,
-        0,
-        0,
-        0,
-        2,
-        0,
-        0,
-        0,
-        1,
-        0,
-        0,
-        0,
-        8,
-        0,
-        0,
-        0,
-        232,
-        3,
-        0,
-        0,
-        1,
-        0,
-        0,
-        0,
-    ]
+    let mut f = [0u8; 88];
+    put_p(&mut f, 48, 16, 88);
+    f
 }
 
-// Plan P with rows at 20, names at 70, and gaps before, between and after them.
+// Gaps before, between and after the areas.
 fn with_gaps() -> [u8; 120] {
-    [
-        1,
-        0,
-        2,
-        0,
-        20,
-        0,
-        0,
-        0,
-        70,
-        0,
-        0,
-        0,
-        120,
-        0,
-        0,
-        0,
-        0,
-        0,
-        0,
-        0,
-        1,
-        0,
-        0,
-        0,
-        1,
-        0,
-        0,
-        0,
-        6,
-        0,
-        0,
-        0,
-        232,
-        3,
-        0,
-        0,
-        1,
-        0,
-        0,
-        0,
-        2,
-        0,
-        0,
-        0,
-        1,
-        0,
-        0,
-        0,
-        8,
-        0,
-        0,
-        0,
-        232,
-        3,
-        0,
-        0,
-        1,
-        0,
-        0,
-        0,
-        0,
-        0,
-        0,
-        0,
-        0,
-        0,
-        0,
-        0,
-        0,
-        0,
-        103,
-        97,
-        117,
-        103,
-        101,
-        0,
-        0,
-        0,
-        0,
-        0,
-        0,
-        0,
-        0,
-        0,
-        0,
-        0,
-        114,
-        97,
-        100,
-        105,
-        111,
-        0,
-        0,
-        0,
-        0,
-        0,
-        0,
-        0,
-        0,
-        0,
-        0,
-        0,
-        0,
-        0,
-        0,
-        0,
-        0,
-        0,
-        0,
-        0,
-        0,
-        0,
-        0,
-        0,
-        0,
-        0,
-        0,
-        0,
-        0,
-        0,
-    ]
+    let mut f = [0u8; 120];
+    put_p(&mut f, 20, 70, 120);
+    f
 }
 
 // One task and nothing else; every field at its lower limit.
 fn smallest() -> [u8; 52] {
-    [
-        1,
-        0,
-        1,
-        0,
-        16,
-        0,
-        0,
-        0,
-        36,
-        0,
-        0,
-        0,
-        52,
-        0,
-        0,
-        0,
-        1,
-        0,
-        0,
-        0,
-        1,
-        0,
-        0,
-        0,
-        1,
-        0,
-        0,
-        0,
-        1,
-        0,
-        0,
-        0,
-        0,
-        0,
-        0,
-        0,
-        45,
-        0,
-        0,
-        0,
-        0,
-        0,
-        0,
-        0,
-        0,
-        0,
-        0,
-        0,
-        0,
-        0,
-        0,
-        0,
-    ]
+    let mut f = [0u8; 52];
+    header(&mut f, 1, 16, 36, 52);
+    row(&mut f, 16, 1, 1, 1, 1, 0);
+    put(&mut f, 36, b'-' as u32);
+    f
 }
 
-// Three such tasks, named A, B and C.
+// Three such tasks, the first named A.
 fn three_tasks() -> [u8; 124] {
-    [
-        1,
-        0,
-        3,
-        0,
-        16,
-        0,
-        0,
-        0,
-        76,
-        0,
-        0,
-        0,
-        124,
-        0,
-        0,
-        0,
-        1,
-        0,
-        0,
-        0,
-        1,
-        0,
-        0,
-        0,
-        1,
-        0,
-        0,
-        0,
-        1,
-        0,
-        0,
-        0,
-        0,
-        0,
-        0,
-        0,
-        1,
-        0,
-        0,
-        0,
-        1,
-        0,
-        0,
-        0,
-        1,
-        0,
-        0,
-        0,
-        1,
-        0,
-        0,
-        0,
-        0,
-        0,
-        0,
-        0,
-        1,
-        0,
-        0,
-        0,
-        1,
-        0,
-        0,
-        0,
-        1,
-        0,
-        0,
-        0,
-        1,
-        0,
-        0,
-        0,
-        0,
-        0,
-        0,
-        0,
-        65,
-        0,
-        0,
-        0,
-        0,
-        0,
-        0,
-        0,
-        0,
-        0,
-        0,
-        0,
-        0,
-        0,
-        0,
-        0,
-        66,
-        0,
-        0,
-        0,
-        0,
-        0,
-        0,
-        0,
-        0,
-        0,
-        0,
-        0,
-        0,
-        0,
-        0,
-        0,
-        67,
-        0,
-        0,
-        0,
-        0,
-        0,
-        0,
-        0,
-        0,
-        0,
-        0,
-        0,
-        0,
-        0,
-        0,
-        0,
-    ]
+    let mut f = [0u8; 124];
+    header(&mut f, 3, 16, 76, 124);
+    row(&mut f, 16, 1, 1, 1, 1, 0);
+    row(&mut f, 36, 1, 1, 1, 1, 0);
+    row(&mut f, 56, 1, 1, 1, 1, 0);
+    put(&mut f, 76, b'A' as u32);
+    f
 }
 
 // Plan P with one number changed, and with two.
-fn edited(at: usize, v: u32) -> [u8; 88] {
+pub(crate) fn edited(at: usize, v: u32) -> [u8; 88] {
     let mut f = plan_p();
     put(&mut f, at, v);
     f
@@ -548,17 +128,7 @@ fn three_named(b: u8, c: u8) -> [u8; 124] {
     f
 }
 
-// One task of the largest file: a row with every field at its upper limit, and a name of sixteen bytes.
-fn put_row(file: &mut [u8], at: usize) {
-    if at < 2048 {
-        put(file, at, 1000000);
-        put(file, at + 4, 1000000);
-        put(file, at + 8, 1000000);
-        put(file, at + 12, 1000000);
-        put(file, at + 16, 1000);
-    }
-}
-
+// A name of sixteen bytes.
 fn put_name(file: &mut [u8], at: usize, first: u8) {
     if at < 2048 {
         put(file, at, four(first, b'z', b'-', b'9'));
@@ -568,16 +138,21 @@ fn put_name(file: &mut [u8], at: usize, first: u8) {
     }
 }
 
-// Sixteen tasks, their names at the end of 2,048 bytes.
-fn largest() -> [u8; 2048] {
+// Sixteen tasks with every other field at its upper limit, their names at the end of 2,048 bytes.
+pub(crate) fn largest(wcet: u32) -> [u8; 2048] {
     let mut f = [0u8; 2048];
-    put(&mut f, 0, 1048577);
-    put(&mut f, 4, 16);
-    put(&mut f, 8, 1792);
-    put(&mut f, 12, 2048);
+    header(&mut f, 16, 16, 1792, 2048);
     let mut i: usize = 0;
     while i < 16 {
-        put_row(&mut f, 16 + 20 * i);
+        row(
+            &mut f,
+            16 + 20 * i,
+            1000000,
+            1000000,
+            1000000,
+            1000000,
+            1000,
+        );
         put_name(&mut f, 1792 + 16 * i, 65 + (i % 16) as u8);
         i += 1;
     }
@@ -623,7 +198,7 @@ fn accepted() {
     show(b"names before rows", &names_first());
     show(b"gaps before, between and after", &with_gaps());
     show(b"smallest", &smallest());
-    show(b"largest", &largest());
+    show(b"largest", &largest(1000000));
 }
 
 // The first k bytes of P.
@@ -771,7 +346,7 @@ fn orders() {
     show(b"rules 2 and 3", &edited(0, 0));
 }
 
-pub fn run() {
+pub(crate) fn run() {
     accepted();
     lengths();
     long();

@@ -349,7 +349,7 @@ fn report(counts: &[u32]) {
     text(b"\n");
 }
 
-pub fn run() {
+pub(crate) fn run() {
     let mut counts = [0u32; 8];
     judge_many(&mut counts);
     report(&counts);

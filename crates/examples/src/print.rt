@@ -1,20 +1,20 @@
 use libc::STDOUT_FILENO;
 
-pub fn text(s: &[u8]) {
+pub(crate) fn text(s: &[u8]) {
     io::write_all(STDOUT_FILENO, s);
 }
 
 // A number after a space.
-pub fn field(n: u32) {
+pub(crate) fn field(n: u32) {
     wide_field(n as u64);
 }
 
-pub fn wide_field(n: u64) {
+pub(crate) fn wide_field(n: u64) {
     text(b" ");
     io::print_decimal(STDOUT_FILENO, n);
 }
 
-pub fn fields(list: &[u32]) {
+pub(crate) fn fields(list: &[u32]) {
     let mut i: usize = 0;
     while i < list.len() {
         field(list[i]);

@@ -40,12 +40,12 @@ fn show(tried: &[u8], rows: &[u32], periods: &[u32]) {
 }
 
 // Plan P of document 01.
-pub fn plan_p() -> [u32; 10] {
+pub(crate) fn plan_p() -> [u32; 10] {
     [1, 1, 6, 1000, 1, 2, 1, 8, 1000, 1]
 }
 
 // Rows with bounds 1 to 1,000, caps 1,000 and weights 1.
-pub fn plain(wcet: &[u32]) -> [u32; 80]
+pub(crate) fn plain(wcet: &[u32]) -> [u32; 80]
     ensures { λ r. ⌜ length r ≡ 80 ⌝ }
 {
     let mut rows = [1000u32; 80];
@@ -164,7 +164,7 @@ fn limits() {
 }
 
 // Sixteen tasks of one wcet, periods and caps 1,000,000.
-pub fn sixteen(wcet: u32) -> [u32; 80]
+pub(crate) fn sixteen(wcet: u32) -> [u32; 80]
     ensures { λ r. ⌜ length r ≡ 80 ⌝ }
 {
     let mut rows = [1000000u32; 80];
@@ -187,7 +187,7 @@ fn most_tasks() {
     );
 }
 
-pub fn run() {
+pub(crate) fn run() {
     published();
     bounds();
     lengths();
