@@ -159,16 +159,18 @@ fn compare_many(counts: &mut [u32]) {
     }
 }
 
+// A counter with its label.
+pub(crate) fn report(label: &[u8], counts: &[u32], k: usize) {
+    text(label);
+    field(at(counts, k));
+}
+
 pub(crate) fn run() {
     let mut counts = [0u32; 4];
     compare_many(&mut counts);
-    text(b"response times by the clock: plans");
-    field(at(&counts, 1));
-    text(b" period assignments");
-    field(at(&counts, 2));
-    text(b" missed deadlines");
-    field(at(&counts, 3));
-    text(b" differences");
-    field(at(&counts, 0));
+    report(b"response times by the clock: plans", &counts, 1);
+    report(b" period assignments", &counts, 2);
+    report(b" missed deadlines", &counts, 3);
+    report(b" differences", &counts, 0);
     text(b"\n");
 }

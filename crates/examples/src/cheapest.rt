@@ -137,6 +137,10 @@ fn infeasible() {
     ample(b"wcet 5, cap 4", &[5, 3, 10, 4, 1]);
     ample(b"wcet 5, bounds 3 to 4", &[5, 3, 4, 1000, 1]);
     ample(b"P, wcet 9 of radio", &[1, 1, 6, 1000, 1, 9, 1, 8, 1000, 1]);
+}
+
+// The first task of either rule, and 31 before 32.
+fn infeasible_orders() {
     ample(
         b"P, wcet 7 of gauge, 9 of radio",
         &[7, 1, 6, 1000, 1, 9, 1, 8, 1000, 1],
@@ -152,13 +156,16 @@ fn infeasible() {
     show(b"wcet 5, cap 4, budget 0", &[5, 3, 10, 4, 1], 0, 1);
 }
 
-// The first broken rule counts: the file's, then 22, 24 and 31.
-fn refusals() {
+fn spaces() {
     show_spaces(b"P, no space for periods", &plan_p(), 9, 0, 4);
     show_spaces(b"P, space for 1 period", &plan_p(), 9, 1, 4);
     show_spaces(b"P, space for 3 periods", &plan_p(), 9, 3, 4);
     show(b"P, no work space", &plan_p(), 9, 0);
     show(b"P, work space of 1", &plan_p(), 9, 1);
+}
+
+// The first broken rule counts: the file's, then 22, 24 and 31.
+fn orders() {
     show_spaces(b"rules 22 and 24", &plan_p(), 9, 1, 1);
     show_spaces(b"wcet 0, rules 22 and 24", &[0, 3, 10, 4, 1], 9, 0, 0);
     show(b"rules 24 and 31", &[5, 3, 10, 4, 1], 9, 0);
@@ -171,5 +178,7 @@ pub(crate) fn run() {
     rooms();
     rooms_of_s();
     infeasible();
-    refusals();
+    infeasible_orders();
+    spaces();
+    orders();
 }

@@ -223,21 +223,30 @@ fn long() {
 }
 
 // A header's first word is the version and, from 65,536 on, n.
-fn headers() {
+fn versions() {
     show(b"version 0", &edited(0, 131072));
     show(b"version 2", &edited(0, 131074));
     show(b"version 257", &edited(0, 131329));
+}
+
+fn task_counts() {
     show(b"n 0", &edited(0, 1));
     show(b"n 17", &edited(0, 1114113));
     show(b"n 258", &edited(0, 16908289));
+}
+
+fn totals() {
     show(b"total one less than the length", &edited(12, 87));
     show(b"total one more than the length", &edited(12, 89));
 }
 
-fn areas() {
+fn rows_outside() {
     show(b"rows at 15", &edited(4, 15));
     show(b"rows end one past the total", &edited(4, 49));
     show(b"rows at the largest offset", &edited(4, 4294967295));
+}
+
+fn names_outside() {
     show(b"names at 8", &edited(8, 8));
     show(b"names end one past the total", &edited(8, 57));
     show(b"names at the largest offset", &edited(8, 4294967295));
@@ -245,6 +254,9 @@ fn areas() {
         b"rows at 0, names end past the total",
         &edited_twice(4, 0, 8, 57),
     );
+}
+
+fn areas_shared() {
     show(b"names share the last byte of the rows", &edited(8, 55));
     show(b"names start with the rows", &edited(8, 16));
     show(
@@ -260,14 +272,20 @@ fn gaps() {
     show(b"bytes 66 and 69 of a gap", &gaps_edited(66, 16777217));
 }
 
-fn limits() {
+fn wcet_limits() {
     show(b"wcet 0", &edited(16, 0));
     show(b"wcet 1,000,000", &edited(16, 1000000));
     show(b"wcet 1,000,001", &edited(16, 1000001));
+}
+
+fn period_limits() {
     show(b"period_min 0 of task 2", &edited(40, 0));
     show(b"period_min 1,000,001", &edited(20, 1000001));
     show(b"period_max 0", &edited(24, 0));
     show(b"period_max 1,000,001 of task 2", &edited(44, 1000001));
+}
+
+fn other_limits() {
     show(b"deadline_cap 0", &edited(28, 0));
     show(b"deadline_cap 1,000,001 of task 2", &edited(48, 1000001));
     show(b"weight 0", &edited(32, 0));
@@ -321,7 +339,7 @@ fn equal_names() {
 }
 
 // The first broken rule counts: of a task 8, then 9, then 10, and task by task.
-fn orders() {
+fn orders_of_rows() {
     show(b"rules 9 and 10 of task 1", &edited_twice(56, 0, 20, 9));
     show(
         b"rules 8, 9 and 10 of task 1",
@@ -339,6 +357,9 @@ fn orders() {
         b"rule 9 of task 2 and equal names",
         &edited_thrice(72, four(b'g', b'a', b'u', b'g'), 76, b'e' as u32, 40, 9),
     );
+}
+
+fn orders_of_areas() {
     show(b"rules 6 and 8", &edited_twice(4, 17, 16, 0));
     show(b"rules 5 and 6", &edited_twice(4, 49, 8, 49));
     show(b"rules 4 and 5", &edited_twice(12, 0, 4, 0));
@@ -350,12 +371,19 @@ pub(crate) fn run() {
     accepted();
     lengths();
     long();
-    headers();
-    areas();
+    versions();
+    task_counts();
+    totals();
+    rows_outside();
+    names_outside();
+    areas_shared();
     gaps();
-    limits();
+    wcet_limits();
+    period_limits();
+    other_limits();
     bounds();
     name_bytes();
     equal_names();
-    orders();
+    orders_of_rows();
+    orders_of_areas();
 }

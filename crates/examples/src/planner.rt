@@ -1,6 +1,7 @@
 use super::brute::add;
 use super::brute::first_missed;
 use super::brute::lesser;
+use super::brute::report;
 use super::build::at;
 use super::build::build;
 use super::build::column;
@@ -12,7 +13,6 @@ use super::draw::draw;
 use super::draw::draw_length;
 use super::draw::draw_plan;
 use super::draw::width;
-use super::print::field;
 use super::print::text;
 use optimizer::Answer;
 use std::num::wrapping_add_u32;
@@ -329,28 +329,20 @@ fn judge_many(counts: &mut [u32]) {
     }
 }
 
-fn report(counts: &[u32]) {
-    text(b"cheapest periods by enumeration: plans");
-    field(at(counts, 1));
-    text(b" period assignments");
-    field(at(counts, 2));
-    text(b" answers");
-    field(at(counts, 3));
-    text(b" 31");
-    field(at(counts, 4));
-    text(b" 32");
-    field(at(counts, 5));
-    text(b" 33");
-    field(at(counts, 6));
-    text(b" 34");
-    field(at(counts, 7));
-    text(b" differences");
-    field(at(counts, 0));
-    text(b"\n");
+fn report_numbers(counts: &[u32]) {
+    report(b" answers", counts, 3);
+    report(b" 31", counts, 4);
+    report(b" 32", counts, 5);
+    report(b" 33", counts, 6);
+    report(b" 34", counts, 7);
 }
 
 pub(crate) fn run() {
     let mut counts = [0u32; 8];
     judge_many(&mut counts);
-    report(&counts);
+    report(b"cheapest periods by enumeration: plans", &counts, 1);
+    report(b" period assignments", &counts, 2);
+    report_numbers(&counts);
+    report(b" differences", &counts, 0);
+    text(b"\n");
 }

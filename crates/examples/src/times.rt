@@ -66,11 +66,14 @@ fn show_plain(tried: &[u8], wcet: &[u32], periods: &[u32]) {
     }
 }
 
-fn published() {
+fn times_of_p() {
     show(b"P at 2 4", &plan_p(), &[2, 4]);
     show(b"P at 2 3", &plan_p(), &[2, 3]);
     show(b"P at 3 3", &plan_p(), &[3, 3]);
     show(b"P at 1 8", &plan_p(), &[1, 8]);
+}
+
+fn times_of_s() {
     show_plain(
         b"S at 105 140 210 280 420 840",
         &[20, 30, 40, 50, 60, 70],
@@ -81,6 +84,10 @@ fn published() {
         &[20, 30, 40, 50, 60, 70],
         &[105, 140, 210, 280, 420, 839],
     );
+}
+
+// The published example of source document 000, and two changes of it.
+fn published() {
     show_plain(
         b"wcet 2 10 3 3 at 10 17 20 100",
         &[2, 10, 3, 3],
@@ -96,16 +103,23 @@ fn published() {
         &[3, 2, 3, 10],
         &[20, 10, 100, 20],
     );
+}
+
+// A full load may be schedulable or not.
+fn full_load() {
     show_plain(b"full load: wcet 2 3 at 4 6", &[2, 3], &[4, 6]);
     show_plain(b"full load: wcet 2 3 at 3 9", &[2, 3], &[3, 9]);
 }
 
 // Rule 23 at both bounds of the first and of the last task.
-fn bounds() {
+fn bounds_of_first() {
     show(b"P at its lower bounds", &plan_p(), &[1, 1]);
     show(b"P at its upper bounds", &plan_p(), &[6, 8]);
     show(b"P at 0 8", &plan_p(), &[0, 8]);
     show(b"P at 7 8", &plan_p(), &[7, 8]);
+}
+
+fn bounds_of_last() {
     show(b"P at 6 0", &plan_p(), &[6, 0]);
     show(b"P at 6 9", &plan_p(), &[6, 9]);
     show(b"P at 7 9", &plan_p(), &[7, 9]);
@@ -120,6 +134,9 @@ fn lengths() {
     show(b"P at no period", &plan_p(), &[]);
     show(b"P at 2", &plan_p(), &[2]);
     show(b"P at 2 4 4", &plan_p(), &[2, 4, 4]);
+}
+
+fn spaces() {
     show_space(b"P at 2 4, no space", &plan_p(), &[2, 4], 0);
     show_space(b"P at 2 4, space of 1", &plan_p(), &[2, 4], 1);
     show_space(b"P at 2 4, space of 3", &plan_p(), &[2, 4], 3);
@@ -188,9 +205,14 @@ fn most_tasks() {
 }
 
 pub(crate) fn run() {
+    times_of_p();
+    times_of_s();
     published();
-    bounds();
+    full_load();
+    bounds_of_first();
+    bounds_of_last();
     lengths();
+    spaces();
     orders();
     limits();
     most_tasks();
