@@ -86,7 +86,7 @@ fn times_of_s() {
     );
 }
 
-// The published example of source document 000, and two changes of it.
+// The examples of source document 000.
 fn published() {
     show_plain(
         b"wcet 2 10 3 3 at 10 17 20 100",
