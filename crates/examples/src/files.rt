@@ -144,15 +144,7 @@ pub(crate) fn largest(wcet: u32) -> [u8; 2048] {
     header(&mut f, 16, 16, 1792, 2048);
     let mut i: usize = 0;
     while i < 16 {
-        row(
-            &mut f,
-            16 + 20 * i,
-            1000000,
-            1000000,
-            1000000,
-            1000000,
-            1000,
-        );
+        row(&mut f, 16 + 20 * i, wcet, 1000000, 1000000, 1000000, 1000);
         put_name(&mut f, 1792 + 16 * i, 65 + (i % 16) as u8);
         i += 1;
     }

@@ -9,16 +9,62 @@ use native.Mathlib.Omega.{arith}
 use lib.Dec.{eqb}
 use lib.ListN.{length, getD, set, drop, replicate, length-set, drop-of-length-le, getD-replicate, List·getD-eq-default}
 use lib.Seq.{getD-set-same, getD-set-other, drop-cons}
+use borrow.Author.Count.{below-more}
 use borrow.Author.Tests.{eqb-true, eqb-false}
 use Rattle.response.specs.Assignments.{dominates}
 use Rattle.response.proofs.Tests.{bool, le-or-lt, eq-or-ne}
 use Rattle.response.proofs.Dominance.{at-most-dominates, not-dominates}
 use Rattle.optimizer.specs.Nodes.{dominatesSome}
 use Rattle.optimizer.specs.Search.{child}
-use Rattle.optimizer.specs.Inner.{nodeAt, nodes, Exceeds, Above, drops, inRange, DroppedBy, Branches, Dropped}
+use Rattle.optimizer.specs.Inner.{nodeAt, nodes, Above, drops, inRange, DroppedBy, Branches, Dropped}
 use Rattle.optimizer.specs.declared.children.Drops.{Drops}
 use Rattle.optimizer.specs.declared.children.Drops.the-variants.{All, One, Nothing}
 use Rattle.optimizer.proofs.Space.{length-nodes, nodes-at}
+
+-- one place of the first i where q exceeds the node, and nowhere else
+pub record Once (q node : List ℕ) (at i : ℕ) : Type 0 where
+  pub inside : at < i
+  pub more : getD node at 0 < getD q at 0
+  pub only : (j : ℕ) → j < i → j ≢ at → getD q j 0 ≤ getD node j 0
+
+-- how often q exceeds the node among the first i places, and where last
+pub data Over (q node : List ℕ) (times at i : ℕ) : Type 0 where
+  nowhere : times ≡ 0 → ((j : ℕ) → j < i → getD q j 0 ≤ getD node j 0) → Over q node times at i
+  once : times ≡ 1 → Once q node at i → Over q node times at i
+  twice : {k : ℕ} → 1 < times → k < at → at < i → getD node k 0 < getD q k 0 → getD node at 0 < getD q at 0 → Over q node times at i
+
+pub record Counted (q node : List ℕ) (times at i : ℕ) : Type 0 where
+  pub few : times ≤ i
+  pub upto : i ≤ length node
+  pub is : Over q node times at i
+
+module _ {q node : List ℕ} where
+  pub counted-none : (at : ℕ) → Counted q node 0 at 0
+  counted-none at = record { few = omega arith; upto = omega arith; is = nowhere refl (λ j h. absurd (omega arith)) }
+
+  over-here : {times at i : ℕ} → Over q node times at i → getD node i 0 < getD q i 0 → Over q node (times + 1) i (i + 1)
+  over-here (nowhere z f) h = once (omega arith) (record { inside = omega arith; more = h; only = λ j l x. f j (omega arith) })
+  over-here (once z o) h = twice (omega arith) (o .inside) (omega arith) (o .more) h
+  over-here (twice z k l m o) h = twice (omega arith) l (omega arith) o h
+
+  over-not : {times at i : ℕ} → Over q node times at i → getD q i 0 ≤ getD node i 0 → Over q node times at (i + 1)
+  over-not (nowhere z f) h = nowhere z (below-more _ _ f h)
+  over-not (once z o) h = once z (record { inside = omega (arith, o .inside); more = o .more; only = below-more _ _ (o .only) (λ x. h) })
+  over-not (twice z k l m o) h = twice z k (omega arith) m o
+
+  module _ {times at i : ℕ} (x : Counted q node times at i) (h : i < length node) where
+    pub count-here : getD node i 0 < getD q i 0 → Counted q node (times + 1) i (i + 1)
+    count-here m = record { few = omega (arith, x .few); upto = omega arith; is = over-here (x .is) m }
+
+    pub count-not : getD q i 0 ≤ getD node i 0 → Counted q node times at (i + 1)
+    count-not m = record { few = omega (arith, x .few); upto = omega arith; is = over-not (x .is) m }
+
+  pub only-once : {times at i : ℕ} → Counted q node times at i → length node ≤ i → times ≢ 0 → times ≤ 1 → Once q node at (length node)
+  only-once {i = i} x d h l = let e : i ≡ length node = omega (arith, x .upto) in elim (x .is) [
+    | nowhere z f ↦ absurd (h z)
+    | once z o ↦ rw e at o
+    | twice z k a m o ↦ absurd (omega arith)
+  ]
 
 module _ (q : List ℕ) {node u : List ℕ} (e : length q ≡ length node) (a : Above node u) where
   under : (i : ℕ) → i < length node → getD q i 0 ≤ suc (getD u i 0) → ((j : ℕ) → j < length node → j ≢ i → getD q j 0 ≤ getD node j 0)
@@ -35,43 +81,45 @@ module _ (q : List ℕ) {node u : List ℕ} (e : length q ≡ length node) (a : 
   past : (i : ℕ) → i < length node → suc (getD u i 0) < getD q i 0 → dominates (child node u i) q ≡ false
   past i h l = not-dominates q (child node u i) i (simp length-set e) (rw (getD-set-same node i (suc (getD u i 0)) 0 h) l)
 
-  pub drops-all : {k : ℕ} → Exceeds q node 0 k → k ≡ length node → DroppedBy q node u All
-  drops-all x d = record {
-    marks = λ i h. under i h (omega (arith, x .not-before i (omega arith) (omega arith), a .above i)) (λ j t y. x .not-before j (omega arith) (omega arith));
-    in-range = tt;
-  }
+  module _ {times at i : ℕ} (x : Counted q node times at i) (d : length node ≤ i) where
+    pub drops-all : times ≡ 0 → DroppedBy q node u All
+    drops-all z = elim (x .is) [
+      | nowhere t f ↦ record { marks = λ j h. under j h (omega (arith, f j (omega arith), a .above j)) (λ k l y. f k (omega arith)); in-range = tt }
+      | once t o ↦ absurd (omega arith)
+      | twice t k h m o ↦ absurd (omega arith)
+    ]
 
-  module _ {i k : ℕ} (x : Exceeds q node 0 i) (y : Exceeds q node (i + 1) k) (h : i < length node) where
-    pub drops-two : k < length node → DroppedBy q node u Nothing
-    drops-two d = record {
-      marks = λ j t. elim (eq-or-ne i j) [
-        | inl z ↦ over j k (y .exceeds d) (λ w. omega (arith, y .past))
-        | inr z ↦ over j i (x .exceeds h) z
+    pub drops-two : 1 < times → DroppedBy q node u Nothing
+    drops-two z = elim (x .is) [
+      | nowhere t f ↦ absurd (omega arith)
+      | once t o ↦ absurd (omega arith)
+      | twice t l h m o ↦ record {
+        marks = λ j r. elim (bool (eqb at j)) [
+          | inl y ↦ over j _ m (λ w. omega (arith, eqb-true at j y))
+          | inr y ↦ over j at o (eqb-false at j y)
+        ];
+        in-range = tt;
+      }
+    ]
+
+  module _ {at : ℕ} (o : Once q node at (length node)) where
+    pub drops-one : getD q at 0 - 1 ≤ getD u at 0 → DroppedBy q node u (One at)
+    drops-one l = record {
+      marks = λ j t. elim (bool (eqb j at)) [
+        | inl z ↦ rw (z, eqb-true j at z) (under at (o .inside) (omega arith) (o .only))
+        | inr z ↦ rw z (over j at (o .more) (λ w. eqb-false j at z (sym w)))
+      ];
+      in-range = o .inside;
+    }
+
+    pub drops-none : getD u at 0 < getD q at 0 - 1 → DroppedBy q node u Nothing
+    drops-none l = record {
+      marks = λ j t. elim (bool (eqb j at)) [
+        | inl z ↦ rw (eqb-true j at z) (past at (o .inside) (omega arith))
+        | inr z ↦ over j at (o .more) (λ w. eqb-false j at z (sym w))
       ];
       in-range = tt;
     }
-
-    module _ (d : length node ≤ k) where
-      only : (j : ℕ) → j < length node → j ≢ i → getD q j 0 ≤ getD node j 0
-      only j t z = elim (le-or-lt i j) [
-        | inl w ↦ y .not-before j (omega arith) (omega arith)
-        | inr w ↦ x .not-before j (omega arith) w
-      ]
-
-      pub drops-one : getD q i 0 - 1 ≤ getD u i 0 → DroppedBy q node u (One i)
-      drops-one l = record {
-        marks = λ j t. elim (bool (eqb j i)) [
-          | inl z ↦ rw (z, eqb-true j i z) (under i h (omega arith) only)
-          | inr z ↦ rw z (over j i (x .exceeds h) (λ w. eqb-false j i z (sym w)))
-        ];
-        in-range = h;
-      }
-
-      pub drops-none : getD u i 0 < getD q i 0 - 1 → DroppedBy q node u Nothing
-      drops-none l = record {
-        marks = λ j t. elim (eq-or-ne i j) [ inl z ↦ rw (← z) (past i h (omega arith)) | inr z ↦ over j i (x .exceeds h) z ];
-        in-range = tt;
-      }
 
 pub one-inside : {q node u : List ℕ} {d : Drops} → DroppedBy q node u d → {j : ℕ} → d ≡ One j → j < length node
 one-inside {node = node} s e = subst (λ (x : Drops). inRange x (length node)) e (s .in-range)

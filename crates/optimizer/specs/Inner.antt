@@ -60,13 +60,6 @@ pub record Taken (ws : List ℕ) (count : ℕ) (work work′ node : List ℕ) : 
   pub least : take (length ws) node ≡ leastOf ws (nodes count (length ws) work)
   pub rest : SameNodes (nodes (count - 1) (length ws) work′) (without (leastOf ws (nodes count (length ws) work)) (nodes count (length ws) work))
 
--- the first place from a place on where one list exceeds another, or its length
-pub record Exceeds (xs ys : List ℕ) (from k : ℕ) : Type 0 where
-  pub upto : k ≤ length ys
-  pub past : from ≤ k
-  pub not-before : (i : ℕ) → from ≤ i → i < k → getD xs i 0 ≤ getD ys i 0
-  pub exceeds : k < length ys → getD ys k 0 < getD xs k 0
-
 -- a node and an assignment that dominates it
 pub record Above (node u : List ℕ) : Type 0 where
   pub sized : length u ≡ length node

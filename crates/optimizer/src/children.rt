@@ -4,7 +4,7 @@ ghost use mathlib.Core.Path.{_≡_};
 ghost use mathlib.Core.List.{[], _∷_, _++_};
 ghost use Prim.Native.Nat.{_+_, _*_, _≤_, _<_};
 ghost use lib.ListN.{length, set};
-ghost use Rattle.optimizer.specs.Inner.{nodes, Exceeds, DroppedBy, Dropped, Above, Branches, HasRoom, Lists};
+ghost use Rattle.optimizer.specs.Inner.{nodes, DroppedBy, Dropped, Above, Branches, HasRoom, Lists};
 
 // Which children of a node an open node drops: all, one task's, or none.
 pub enum Drops {
@@ -13,37 +13,30 @@ pub enum Drops {
     Nothing,
 }
 
-// The first task from a place on whose period in a exceeds that in b, or the count of tasks.
-pub fn exceeds_from(a: &[u32], b: &[u32], from: usize) -> usize
-    requires { ⌜ (length (now a) ≡ length (now b)) × (from ≤ length (now b)) ⌝ }
-    ensures { λ r. ⌜ Exceeds (now (a .entry)) (now (b .entry)) from r ⌝ }
-{
-    let mut i = from;
-    while i < b.len() {
-        if b[i] < a[i] {
-            return i;
-        }
-        i += 1;
-    }
-    i
-}
-
 // A child of node is node with one period set to the mua's and one more. It dominates q where q exceeds node nowhere else.
 pub fn dropped_by(q: &[u32], node: &[u32], mua: &[u32]) -> Drops
     requires { ⌜ (length (now q) ≡ length (now node)) × Above (now node) (now mua) ⌝ }
     ensures { λ r. ⌜ DroppedBy (now (q .entry)) (now (node .entry)) (now (mua .entry)) r ⌝ }
 {
-    let n = node.len();
-    let i = exceeds_from(q, node, 0);
-    if i == n {
+    let mut over: usize = 0;
+    let mut at: usize = 0;
+    let mut i: usize = 0;
+    // To the end, with no branch: an early exit would be mispredicted.
+    while i < node.len() {
+        if node[i] < q[i] {
+            over += 1;
+            at = i;
+        }
+        i += 1;
+    }
+    if over == 0 {
         return Drops::All;
     }
-    let next = exceeds_from(q, node, i + 1);
-    if next < n {
+    if 1 < over {
         return Drops::Nothing;
     }
-    if q[i] - 1 <= mua[i] {
-        return Drops::One(i);
+    if q[at] - 1 <= mua[at] {
+        return Drops::One(at);
     }
     Drops::Nothing
 }
