@@ -3,7 +3,7 @@ use mathlib.Core.Path.{_≡_, refl, ap, _∙_}
 use mathlib.Core.Bool.{true, false, cond}
 use mathlib.Core.Logic.{inl, inr}
 use mathlib.Core.List.{List, [], _++_}
-use Prim.Native.Nat.{ℕ, _≤_}
+use Prim.Native.Nat.{ℕ}
 use native.Mathlib.Omega.{arith}
 use lib.Dec.{eqb}
 use lib.ListN.{length, take, drop, take-append-drop}
@@ -11,18 +11,15 @@ use lib.Seq.{take-at, length-take-le}
 use borrow.Author.Tests.{eq-eqb, ne-eqb, le-ltb}
 use Rattle.plan.specs.Faults.{passed}
 use Rattle.plan.specs.Layout.{taskCount}
-use Rattle.plan.specs.Files.{accepted, tasksOf}
-use Rattle.plan.proofs.Rules.{bool}
-use Rattle.plan.proofs.Accepted.{accepted-areas}
+use Rattle.plan.specs.Files.{accepted, tasksOf, tasksRead}
+use Rattle.plan.proofs.Accepted.{accepted-areas, read-few}
+use Rattle.plan.proofs.Tests.{bool}
 use Rattle.optimizer.specs.declared.cheapest.Answer.{Answer}
 use Rattle.optimizer.specs.Claims.{Settles}
 use Rattle.optimizer.specs.Promises.{callFault, outcome, Plans, roomOf}
 use Rattle.desk.specs.Block.{blockSize, noPeriods, padded}
 use Rattle.desk.specs.Inner.{carriedBy, Writes}
-use Rattle.desk.specs.Promises.{deskTasks, deskWork, deskOutcome, deskCarries, Calls}
-
-pub tasks-few : (s : List ℕ) → deskTasks s ≤ 16
-tasks-few s = elim (bool (accepted s)) [ inl e ↦ rw e (accepted-areas s e .few) | inr e ↦ rw e (omega arith) ]
+use Rattle.desk.specs.Promises.{deskWork, deskOutcome, deskCarries, Calls}
 
 pub wrong-block : (s b : List ℕ) (budget : ℕ) → (length b ≡ blockSize → ⊥) → Calls s budget b b 25
 wrong-block s b budget h =
@@ -30,17 +27,17 @@ wrong-block s b budget h =
     record { returns = rw e; block = rw e; carries = λ l. absurd (h l); settles = λ l. absurd (h l) }
 
 -- an accepted file passes the rules for the spaces too
-accepted-passes : (s : List ℕ) → accepted s ≡ true → passed (callFault s (deskTasks s) deskWork) ≡ true
+accepted-passes : (s : List ℕ) → accepted s ≡ true → passed (callFault s (tasksRead s) deskWork) ≡ true
 unfolding callFault
 accepted-passes s e =
     let w = accepted-areas s e in
     rw (e, eq-eqb (taskCount s) (taskCount s) refl, le-ltb 16000 (taskCount s) (omega arith))
 
 -- CHEAPEST was lent the first n of sixteen zeros, and left o′ there
-module _ {s o′ w w′ : List ℕ} {budget n : ℕ} {r : Answer} (tasks : n ≡ deskTasks s) (p : Plans s budget (take n noPeriods) o′ w w′ r) (work : length w ≡ deskWork)
+module _ {s o′ w w′ : List ℕ} {budget n : ℕ} {r : Answer} (tasks : n ≡ tasksRead s) (p : Plans s budget (take n noPeriods) o′ w w′ r) (work : length w ≡ deskWork)
     (sized : length o′ ≡ length (take n noPeriods)) where
   space : length (take n noPeriods) ≡ n
-  space = length-take-le n noPeriods (rw tasks (tasks-few s))
+  space = length-take-le n noPeriods (rw tasks (read-few s))
 
   same-outcome : outcome s budget (length (take n noPeriods)) (length w) ≡ deskOutcome s budget
   same-outcome = rw (work, space, tasks)

@@ -5,25 +5,20 @@ use mathlib.Core.List.{List}
 use Prim.Native.Nat.{ℕ}
 use lib.Dec.{eqb}
 use lib.ListN.{length, take}
-use Rattle.plan.specs.Layout.{taskCount}
-use Rattle.plan.specs.Files.{accepted, tasksOf}
+use Rattle.plan.specs.Files.{accepted, tasksOf, tasksRead}
 use Rattle.optimizer.specs.Claims.{Settles}
 use Rattle.optimizer.specs.Promises.{Outcome, outcome, roomOf}
 use Rattle.desk.specs.Block.{Carried, blockSize, encoded, carried, carrying}
-
--- "n (..; 0 if the file was refused)"
-abbrev pub deskTasks : List ℕ → ℕ
-deskTasks s = cond (accepted s) (taskCount s) 0
 
 -- "It is CHEAPEST with a work space of 16,000 numbers."
 abbrev pub deskWork : ℕ
 deskWork = 16000
 
 abbrev pub deskOutcome : List ℕ → ℕ → Outcome
-deskOutcome s budget = outcome s budget (deskTasks s) deskWork
+deskOutcome s budget = outcome s budget (tasksRead s) deskWork
 
 abbrev pub deskCarries : List ℕ → ℕ → Carried
-deskCarries s budget = carrying (deskOutcome s budget) (deskTasks s)
+deskCarries s budget = carrying (deskOutcome s budget) (tasksRead s)
 
 -- DESK, with the block b before and b′ after
 pub record Calls (s : List ℕ) (budget : ℕ) (b b′ : List ℕ) (r : ℕ) : Type 0 where

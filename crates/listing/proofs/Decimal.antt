@@ -5,7 +5,7 @@ use Prim.Native.Nat.{ℕ, zero, suc, _-_, _/_, _%_, _^_, _≤_, _<_}
 use native.Mathlib.Nat.{one-le-pow, pow-le-pow-right}
 use native.Mathlib.Omega.{arith}
 use borrow.Author.Tests.{lt-ltb, le-ltb}
-use Rattle.response.proofs.Tests.{le-or-lt}
+use Rattle.plan.proofs.Tests.{le-or-lt}
 use Rattle.io.specs.Digits.{digits, Fewest}
 use Rattle.listing.specs.Text.{decimalOf, decimal}
 

@@ -12,27 +12,24 @@ use Rattle.plan.specs.declared.record.Task.{Task}
 use Rattle.plan.specs.Faults.{passed}
 use Rattle.plan.specs.Tasks.{between, periodMins, periodMaxs}
 use Rattle.plan.specs.Layout.{taskCount}
-use Rattle.plan.specs.Files.{accepted, tasksOf}
+use Rattle.plan.specs.Files.{accepted, tasksOf, tasksRead}
+use Rattle.plan.proofs.Tests.{bool, eq-or-ne, and-both}
 use Rattle.plan.proofs.Rules.{run-some}
-use Rattle.plan.proofs.Accepted.{accepted-areas, tasks-length}
+use Rattle.plan.proofs.Accepted.{tasks-length}
 use Rattle.response.specs.declared.times.Times.{Times}
 use Rattle.response.specs.Promises.{boundFault, boundsFault, timesFault, timesOf, Analyses}
-use Rattle.response.proofs.Tests.{bool, eq-or-ne, and-both}
 use Rattle.response.proofs.Bounds.{Within, within-true}
 use Rattle.optimizer.specs.declared.cheapest.Answer.{Answer}
 use Rattle.optimizer.specs.Promises.{callFault, outcome, Plans}
 use Rattle.optimizer.proofs.Settled.{call-accepted}
 use Rattle.listing.specs.Text.{line, decimal, costWord, roundsWord, refusedWord, boundWord, taskLines, listingFor, listingOf}
-use Rattle.listing.specs.Inner.{Puts, tasksRead}
+use Rattle.listing.specs.Inner.{Puts}
 use Rattle.listing.specs.Promises.{Lists}
 
 -- a file that is refused is refused with any space
 outcome-read : (s : List ℕ) (budget work : ℕ) → outcome s budget (tasksRead s) work ≡ outcome s budget (taskCount s) work
 unfolding outcome callFault
 outcome-read s budget work = elim (bool (accepted s)) [ inl e ↦ rw e | inr e ↦ rw e ]
-
-pub read-few : (s : List ℕ) → tasksRead s ≤ 16
-read-few s = elim (bool (accepted s)) [ inl e ↦ rw e (accepted-areas s e .few) | inr e ↦ rw e (omega arith) ]
 
 -- periods within their bounds break no rule of TIMES
 bounds-kept : (ts : List Task) (xs : List ℕ) → Within ts xs → boundsFault ts xs .number ≡ 0

@@ -11,7 +11,7 @@ use lib.ListN.{length, getD, length-take}
 use Rattle.plan.specs.Names.{nameField, withoutZeros}
 use Rattle.plan.specs.Files.{isNamed}
 use Rattle.plan.specs.Promises.{Names}
-use Rattle.plan.proofs.Rules.{bool}
+use Rattle.plan.proofs.Tests.{bool}
 use Rattle.listing.specs.Text.{line, decimal, taskLines}
 use Rattle.listing.specs.Inner.{Puts}
 use Rattle.listing.proofs.Writing.{then, puts-within}

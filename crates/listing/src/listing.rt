@@ -1,7 +1,7 @@
 ghost use mathlib.Core.Path.{_≡_};
 ghost use Prim.Native.Nat.{ℕ, _≤_};
 ghost use lib.ListN.{length};
-ghost use Rattle.listing.specs.Inner.{tasksRead};
+ghost use Rattle.plan.specs.Files.{tasksRead};
 ghost use Rattle.listing.specs.Promises.{Lists};
 use super::lines::put_refusal;
 use super::lines::put_rounds;

@@ -12,7 +12,7 @@ use borrow.Author.Tests.{ltb-true, lt-ltb}
 use Rattle.plan.specs.declared.record.Task.{Task}
 use Rattle.plan.specs.Names.{same}
 use Rattle.plan.specs.Tasks.{periodMins, periodMaxs, weights}
-use Rattle.response.proofs.Tests.{bool, le-or-lt, eq-or-ne, both}
+use Rattle.plan.proofs.Tests.{bool, le-or-lt, eq-or-ne, both}
 use Rattle.response.proofs.Dominance.{same-eq, AtMost, at-most-or, at-most-set, set-at-most}
 use Rattle.response.proofs.Bounds.{Within, within-set}
 use Rattle.optimizer.specs.Nodes.{occurrences}

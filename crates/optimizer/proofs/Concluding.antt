@@ -3,7 +3,7 @@ use mathlib.Core.Path.{_≡_, refl, sym, ap, _∙_}
 use mathlib.Core.Bool.{true, false}
 use mathlib.Core.Logic.{inl, inr}
 use mathlib.Core.List.{List, [], _∷_}
-use Prim.Native.Nat.{ℕ, suc, _+_, _-_, _≤_, _<_}
+use Prim.Native.Nat.{ℕ, _≤_, _<_}
 use native.Mathlib.Omega.{arith}
 use lib.ListN.{length, take, replicate, length-map}
 use borrow.Author.Tests.{eq-eqb, ne-eqb, lt-leb, lt-ltb, le-ltb}
@@ -14,14 +14,14 @@ use Rattle.plan.specs.Faults.{Fault, fault, none, passed, firstFault, firstFrom
 use Rattle.plan.specs.Tasks.{periodMaxs}
 use Rattle.plan.specs.Layout.{taskCount}
 use Rattle.plan.specs.Files.{fileFault, tasksOf}
-use Rattle.plan.proofs.Rules.{or-next, or-here, run-if, run-next}
+use Rattle.plan.proofs.Tests.{eq-or-ne, both, not-false}
+use Rattle.plan.proofs.Rules.{or-next, or-here}
 use Rattle.plan.proofs.Accepted.{accepted-areas, accepted-sane, tasks-length}
 use Rattle.plan.proofs.Loading.{file-number}
-use Rattle.response.specs.Analysis.{Timing, timing, timingOf, ownDemand, deadline, schedulable, responseTimes, firstMissed}
+use Rattle.response.specs.Analysis.{Timing, timing, timingOf, schedulable, responseTimes, firstMissed}
 use Rattle.response.specs.Inner.{Limits}
 use Rattle.response.proofs.Bounds.{maxs-within}
 use Rattle.response.proofs.Plans.{ranged, limits-within, loaded-accepted, loaded-plan}
-use Rattle.response.proofs.Tests.{eq-or-ne, both, not-false}
 use Rattle.response.proofs.Missed.{schedulable-first, first-schedulable}
 use Rattle.optimizer.specs.declared.cheapest.Answer.{Answer}
 use Rattle.optimizer.specs.Search.{problem, problemOf, search}
@@ -30,14 +30,6 @@ use Rattle.optimizer.specs.Inner.{ColumnsOf, Ends, Answers}
 use Rattle.optimizer.specs.Promises.{callFault, aloneFault, noneFault, tasksFault, roomOf, refused, concluded, outcome, isSearched, Plans}
 use Rattle.optimizer.proofs.Guarantees.{search-optimal}
 use Rattle.optimizer.proofs.Settled.{sound, call-accepted, tasks-pass, settles-refused, settles-searched}
-
--- rule 31 at task i
-module _ (T : Timing) (maxs : List ℕ) (n i : ℕ) (h : i < n) where
-  pub alone-at : deadline T maxs i < ownDemand T i → firstFrom (aloneFault T maxs) (n - i) i ≡ fault 31 (i + 1)
-  alone-at l = let a : suc i ≡ i + 1 = omega arith in run-if (aloneFault T maxs) n i 30 (i + 1) h (rw (lt-ltb (deadline T maxs i) (ownDemand T i) l, a))
-
-  pub alone-next : ownDemand T i ≤ deadline T maxs i → firstFrom (aloneFault T maxs) (n - i) i ≡ firstFrom (aloneFault T maxs) (n - (i + 1)) (i + 1)
-  alone-next l = run-next (aloneFault T maxs) n i h (rw (le-ltb (deadline T maxs i) (ownDemand T i) l))
 
 module _ {ts : List Task} {wcet caps mins maxs ws : List ℕ} (g : ColumnsOf ts wcet caps mins maxs ws) where
   abbrev T : Timing

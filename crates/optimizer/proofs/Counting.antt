@@ -7,8 +7,8 @@ use Prim.Native.Nat.{ℕ, zero, suc, _+_, _-_, _*_, _≤_, _<_}
 use native.Mathlib.Omega.{arith}
 use lib.ListN.{length, length-append}
 use Rattle.plan.specs.declared.record.Task.{Task}
+use Rattle.plan.proofs.Tests.{bool, le-or-lt, eq-or-ne}
 use Rattle.response.specs.Assignments.{assignmentCount}
-use Rattle.response.proofs.Tests.{bool, eq-or-ne, le-or-lt}
 use Rattle.response.proofs.Bounds.{Within}
 use Rattle.optimizer.specs.Nodes.{occurrences}
 use Rattle.optimizer.proofs.Multiset.{Listed, listed-cases, listed-here, occurrences-append, length-le}

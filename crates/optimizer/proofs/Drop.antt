@@ -11,8 +11,8 @@ use lib.ListN.{length, getD, set, drop, replicate, length-set, drop-of-length-le
 use lib.Seq.{getD-set-same, getD-set-other, drop-cons}
 use borrow.Author.Count.{below-more}
 use borrow.Author.Tests.{eqb-true, eqb-false}
+use Rattle.plan.proofs.Tests.{bool, le-or-lt, eq-or-ne}
 use Rattle.response.specs.Assignments.{dominates}
-use Rattle.response.proofs.Tests.{bool, le-or-lt, eq-or-ne}
 use Rattle.response.proofs.Dominance.{at-most-dominates, not-dominates}
 use Rattle.optimizer.specs.Nodes.{dominatesSome}
 use Rattle.optimizer.specs.Search.{child}

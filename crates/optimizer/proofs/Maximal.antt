@@ -9,7 +9,7 @@ use native.Mathlib.Nat.{le-trans}
 use lib.ListN.{length, getD, set}
 use Rattle.plan.specs.declared.record.Task.{Task}
 use Rattle.plan.specs.Tasks.{periodMins, periodMaxs}
-use Rattle.response.proofs.Tests.{bool, eq-or-ne, both, not-false}
+use Rattle.plan.proofs.Tests.{bool, eq-or-ne, both, not-false}
 use Rattle.response.proofs.Dominance.{AtMost, at-most-set}
 use Rattle.response.proofs.Bounds.{Within, within-set}
 use Rattle.optimizer.specs.Search.{raisedFrom, raised, muaFrom, mua}

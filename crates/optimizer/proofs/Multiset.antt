@@ -7,8 +7,8 @@ use Prim.Native.Nat.{ℕ, zero, suc, _+_, _-_, _≤_, _<_}
 use native.Mathlib.Omega.{arith}
 use lib.ListN.{length, getD, set}
 use Rattle.plan.specs.Names.{same}
+use Rattle.plan.proofs.Tests.{bool, le-or-lt, both, not-false, or-cases}
 use Rattle.response.specs.Assignments.{less, dominates}
-use Rattle.response.proofs.Tests.{bool, le-or-lt, both, not-false, or-cases}
 use Rattle.response.proofs.Dominance.{same-refl, same-eq, ne-same}
 use Rattle.response.proofs.Order.{less-irrefl, less-total, less-asym, not-less-trans}
 use Rattle.optimizer.specs.Nodes.{leastFrom, leastOf, without, dominatesSome, kept, occurrences, SameNodes}

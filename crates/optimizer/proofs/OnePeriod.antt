@@ -10,9 +10,9 @@ use lib.Dec.{leb}
 use lib.ListN.{length, getD, set}
 use lib.Seq.{getD-set-same, getD-set-other}
 use borrow.Author.Tests.{leb-true, le-leb, lt-leb}
+use Rattle.plan.proofs.Tests.{le-or-lt, eq-or-ne, not-false}
 use Rattle.response.specs.Analysis.{Timing, ceiling, ownDemand, responseTime, meets}
 use Rattle.response.specs.Claims.{Covers}
-use Rattle.response.proofs.Tests.{le-or-lt, eq-or-ne, not-false}
 use Rattle.response.proofs.Ceiling.{ceiling-le, le-ceiling}
 use Rattle.response.proofs.Demand.{demand-less, demand-same}
 use Rattle.response.proofs.Exactness.{response-exact}

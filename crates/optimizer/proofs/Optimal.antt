@@ -10,8 +10,8 @@ use lib.ListN.{length}
 use Rattle.plan.specs.declared.record.Task.{Task}
 use Rattle.plan.specs.Names.{same}
 use Rattle.plan.specs.Tasks.{periodMins, periodMaxs}
+use Rattle.plan.proofs.Tests.{bool, le-or-lt, both}
 use Rattle.response.specs.Assignments.{cost, less, withinBounds}
-use Rattle.response.proofs.Tests.{bool, le-or-lt, both}
 use Rattle.response.proofs.Dominance.{same-eq, AtMost, at-most-dominates}
 use Rattle.response.proofs.Order.{not-less-trans, same-or-later, not-less-cost, dominating-not-less}
 use Rattle.response.proofs.Bounds.{Within, within-true, true-within, mins-within, maxs-within, dominates-within}

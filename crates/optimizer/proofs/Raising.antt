@@ -11,9 +11,9 @@ use lib.ListN.{length, getD, set, length-set}
 use lib.Seq.{getD-set-same, set-set, set-getD}
 use borrow.Author.Tests.{lt-leb, le-leb}
 use Rattle.plan.specs.Tasks.{maxTicks}
+use Rattle.plan.proofs.Tests.{le-or-lt, eq-or-ne}
 use Rattle.response.specs.Analysis.{Timing, timing, taskTotal, responseTime, meets, firstMeet, schedulable}
 use Rattle.response.specs.Inner.{Limits}
-use Rattle.response.proofs.Tests.{le-or-lt, eq-or-ne}
 use Rattle.response.proofs.Limits.{limits-set}
 use Rattle.response.proofs.Exactness.{response-exact}
 use Rattle.response.proofs.Dominance.{set-at-most}

@@ -7,8 +7,8 @@ use Prim.Native.Nat.{ℕ, zero, suc, _+_, _≤_, _<_}
 use native.Mathlib.Omega.{arith}
 use Rattle.plan.specs.declared.record.Task.{Task}
 use Rattle.plan.specs.Names.{same}
+use Rattle.plan.proofs.Tests.{both, not-false}
 use Rattle.response.specs.Assignments.{assignmentCount, dominates}
-use Rattle.response.proofs.Tests.{both, not-false}
 use Rattle.response.proofs.Dominance.{same-refl, at-most-antisym, at-most-dominates, dominates-down}
 use Rattle.response.proofs.Order.{dominating-later}
 use Rattle.response.proofs.Bounds.{dominates-within}

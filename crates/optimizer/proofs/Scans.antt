@@ -9,9 +9,8 @@ use native.Mathlib.Omega.{arith}
 use lib.Dec.{ltb, eqb}
 use lib.ListN.{length, getD, drop, drop-of-length-le}
 use lib.Seq.{drop-cons}
-use borrow.Author.Tests.{le-ltb, ne-eqb}
 use Rattle.response.specs.Assignments.{cost, before, byCost, less}
-use Rattle.response.proofs.Order.{first-lt, first-eq}
+use Rattle.response.proofs.Order.{first-lt, first-eq, first-gt}
 use Rattle.optimizer.specs.Nodes.{leastFrom, leastOf}
 use Rattle.optimizer.specs.Inner.{nodeAt, nodes, Priced, Open, IsLeast}
 use Rattle.optimizer.proofs.Space.{in-space, length-node, length-nodes, nodes-at}
@@ -40,10 +39,6 @@ module _ {ws xs : List ℕ} (p : Priced ws xs) {sum i : ℕ} (s : Summed ws xs s
       small = omega (arith, s .small, product-small);
       is = rw (add-one i, ew, ex) (omega (arith, rw (drop-cons ws i 0 (omega (arith, p .sized)), drop-cons xs i 0 h) at (s .is)));
     }
-
--- by a first number, then by a test b, where the first number is the greater
-pub first-gt : (x y : ℕ) (b : Bool) → y < x → ltb x y || (eqb x y && b) ≡ false
-first-gt x y b h = rw (le-ltb x y (omega arith), ne-eqb x y (λ e. omega arith))
 
 -- the first i periods are the same
 pub record Tied (xs ys : List ℕ) (i : ℕ) : Type 0 where

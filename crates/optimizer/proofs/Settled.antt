@@ -12,11 +12,11 @@ use Rattle.plan.specs.declared.record.Task.{Task}
 use Rattle.plan.specs.Faults.{Fault, passed, firstFault, firstFrom}
 use Rattle.plan.specs.Tasks.{periodMaxs}
 use Rattle.plan.specs.Files.{fileFault, accepted}
+use Rattle.plan.proofs.Tests.{bool, eq-or-ne}
 use Rattle.plan.proofs.Rules.{or-first, or-second, or-next, or-here, if-passed, run-some}
 use Rattle.plan.proofs.Accepted.{AllSane}
 use Rattle.response.specs.Analysis.{timingOf, ownDemand, deadline, schedulable}
 use Rattle.response.specs.Promises.{spaceFault}
-use Rattle.response.proofs.Tests.{bool, eq-or-ne}
 use Rattle.response.proofs.Bounds.{maxs-within, true-within}
 use Rattle.response.proofs.Exactness.{response-past}
 use Rattle.response.proofs.Sustainable.{schedulable-none}

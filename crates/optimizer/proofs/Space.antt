@@ -9,7 +9,7 @@ use native.Mathlib.Omega.{arith}
 use lib.ListN.{length, getD, take, drop, set, length-drop, length-set}
 use lib.Seq.{set-at, length-take-le, take-add, drop-drop, take-at, drop-at, set-append-left, getD-set-same, getD-set-other}
 use borrow.Rule.Slice.PartMut.{putMid}
-use Rattle.response.proofs.Tests.{eq-or-ne}
+use Rattle.plan.proofs.Tests.{eq-or-ne}
 use Rattle.optimizer.specs.Nodes.{occurrences, without, SameNodes}
 use Rattle.optimizer.specs.Inner.{nodeAt, nodes, put}
 use Rattle.optimizer.proofs.Multiset.{listed-at, occurrences-append, occurrences-set, occurrences-without}

@@ -8,8 +8,8 @@ use native.Mathlib.Omega.{arith}
 use lib.Dec.{ltb}
 use lib.ListN.{length, length-append}
 use borrow.Author.Tests.{lt-ltb, le-ltb}
+use Rattle.plan.proofs.Tests.{bool, le-or-lt}
 use Rattle.response.specs.Assignments.{cost}
-use Rattle.response.proofs.Tests.{bool, le-or-lt}
 use Rattle.optimizer.specs.Nodes.{kept, occurrences, SameNodes}
 use Rattle.optimizer.specs.Rule.{Rule, End, ended, least, rest, added, searchFrom}
 use Rattle.optimizer.proofs.Multiset.{occurrences-append, same-nodes-without, same-length, same-least, same-kept, same-next}

@@ -5,10 +5,13 @@ ghost use lib.Dec.{leb};
 ghost use lib.ListN.{length};
 ghost use Rattle.plan.specs.declared.record.Task as T;
 ghost use Rattle.plan.specs.Faults.{faultIf, firstFrom};
+ghost use Rattle.plan.specs.Tasks.{maxTasks};
 ghost use Rattle.response.specs.Analysis.{timing};
 ghost use Rattle.optimizer.specs.Inner.{ColumnsOf, Columns, Answers};
 ghost use Rattle.optimizer.specs.Promises.{aloneFault, concluded, Plans};
+use super::nodes::clear;
 use super::search::search;
+use response::deadline_of;
 use response::first_missed;
 
 // CHEAPEST's answer: the number with its place, the cost of an answer, the rounds, and the bound of a stop.
@@ -34,15 +37,12 @@ fn refused(number: u32, place: u32) -> Answer
 
 // Rule 31: the first task whose wcet exceeds its deadline at the longest period, counted from 1, or 0.
 fn infeasible_alone(wcet: &[u32], deadline_cap: &[u32], period_max: &[u32]) -> u32
-    requires { ⌜ (length (now «deadline_cap») ≡ length (now wcet)) × ((length (now «period_max») ≡ length (now wcet)) × (length (now wcet) ≤ 16)) ⌝ }
+    requires { ⌜ (length (now «deadline_cap») ≡ length (now wcet)) × ((length (now «period_max») ≡ length (now wcet)) × (length (now wcet) ≤ maxTasks)) ⌝ }
     ensures { λ r. ⌜ firstFrom (aloneFault (timing (now (wcet .entry)) (now («deadline_cap» .entry))) (now («period_max» .entry))) (length (now (wcet .entry))) 0 ≡ faultIf (leb 1 r) 31 r ⌝ }
 {
     let mut i: usize = 0;
     while i < wcet.len() {
-        if period_max[i] < wcet[i] {
-            return (i + 1) as u32;
-        }
-        if deadline_cap[i] < wcet[i] {
+        if deadline_of(period_max[i], deadline_cap[i]) < wcet[i] {
             return (i + 1) as u32;
         }
         i += 1;
@@ -50,7 +50,7 @@ fn infeasible_alone(wcet: &[u32], deadline_cap: &[u32], period_max: &[u32]) -> u
     0
 }
 
-// Rules 31 and 32, then the search.
+// Rules 31 and 32, then the search, of which the work space keeps no trace.
 fn conclude(
     wcet: &[u32],
     deadline_cap: &[u32],
@@ -72,7 +72,7 @@ fn conclude(
     if missed != 0 {
         return refused(32, missed);
     }
-    search(
+    let answer = search(
         wcet,
         deadline_cap,
         period_min,
@@ -81,7 +81,9 @@ fn conclude(
         budget,
         periods,
         work,
-    )
+    );
+    clear(work);
+    answer
 }
 
 // CHEAPEST: the cheapest schedulable periods within the bounds, written where there are any; the work space is left cleared.

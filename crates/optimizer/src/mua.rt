@@ -1,11 +1,12 @@
 use super::nodes::read_node;
 use response::response_time;
+use response::rounded_up;
 ghost use mathlib.Core.Path.{_≡_};
 ghost use mathlib.Core.Bool.{true, false};
 ghost use Prim.Native.Nat.{suc, _+_, _≤_, _<_, max};
 ghost use lib.ListN.{length, getD, take};
 ghost use Rattle.plan.specs.Tasks.{maxTicks};
-ghost use Rattle.response.specs.Analysis.{timing, ceiling, meets, firstMeet, schedulable};
+ghost use Rattle.response.specs.Analysis.{timing, meets, firstMeet, schedulable};
 ghost use Rattle.optimizer.specs.Mua.{Range, Unschedulable, LastMiss, Raised, Moved};
 ghost use Rattle.optimizer.specs.Search.{mua};
 
@@ -13,13 +14,6 @@ fn greater(a: u32, b: u32) -> u32
     ensures { λ r. ⌜ r ≡ max a b ⌝ }
 {
     if a < b { b } else { a }
-}
-
-fn rounded_up(a: u32, b: u32) -> u32
-    requires { ⌜ (a ≤ maxTicks) × ((1 ≤ b) × (b ≤ maxTicks)) ⌝ }
-    ensures { λ r. ⌜ r ≡ ceiling a b ⌝ }
-{
-    (a + b - 1) / b
 }
 
 // The value to try next. The one above low settles a task that meets its deadline there; after it, the one below high mostly

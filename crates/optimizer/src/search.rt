@@ -14,7 +14,7 @@ ghost use Rattle.response.specs.Analysis.{timing, schedulable};
 ghost use Rattle.optimizer.specs.Search.{mua, problem, search};
 ghost use Rattle.optimizer.specs.Mua.{Unschedulable};
 ghost use Rattle.optimizer.specs.Inner.{nodes, Open, Taken, HasRoom, Above, Lists, Searchable, Ends};
-ghost use lib.ListN.{length, replicate};
+ghost use lib.ListN.{length};
 
 // Takes the least node off.
 pub fn take_least(work: &mut [u32], weights: &[u32], count: usize) -> [u32; Plan::MAX_TASKS]
@@ -56,8 +56,20 @@ fn branch(
     children::expand(work, count, room, node, &u[..n], period_max)
 }
 
+fn stopped(number: u32, rounds: u64, bound: u64) -> Answer
+    ensures { λ r. ⌜ r ≡ record { number = number; place = 0; cost = 0; rounds = rounds; bound = bound } ⌝ }
+{
+    Answer {
+        number,
+        place: 0,
+        cost: 0,
+        rounds,
+        bound,
+    }
+}
+
 // The rounds. The open nodes never run out: the longest periods are schedulable and dominate one of them.
-fn run(
+pub fn search(
     wcet: &[u32],
     deadline_cap: &[u32],
     period_min: &[u32],
@@ -104,44 +116,4 @@ fn run(
         count = listed;
     }
     stopped(33, rounds, bound_of(work, weights, count))
-}
-
-fn stopped(number: u32, rounds: u64, bound: u64) -> Answer
-    ensures { λ r. ⌜ r ≡ record { number = number; place = 0; cost = 0; rounds = rounds; bound = bound } ⌝ }
-{
-    Answer {
-        number,
-        place: 0,
-        cost: 0,
-        rounds,
-        bound,
-    }
-}
-
-// The search; it leaves no trace in the work space.
-pub fn search(
-    wcet: &[u32],
-    deadline_cap: &[u32],
-    period_min: &[u32],
-    period_max: &[u32],
-    weights: &[u32],
-    budget: u64,
-    periods: &mut [u32],
-    work: &mut [u32],
-) -> Answer
-    requires { ⌜ Searchable (now wcet) (now «deadline_cap») (now «period_min») (now «period_max») (now weights) × ((length (now periods) ≡ length (now weights)) × (length (now weights) ≤ length (now work))) ⌝ }
-    ensures { λ r. ⌜ Ends (now (weights .entry)) (search (problem (schedulable (timing (now (wcet .entry)) (now («deadline_cap» .entry)))) (now («period_min» .entry)) (now («period_max» .entry)) (now (weights .entry))) budget (length (now (work .entry)) / length (now (weights .entry)))) (now (periods .entry)) (now (periods .exit)) r × (now (work .exit) ≡ replicate (length (now (work .entry))) 0) ⌝ }
-{
-    let answer = run(
-        wcet,
-        deadline_cap,
-        period_min,
-        period_max,
-        weights,
-        budget,
-        periods,
-        work,
-    );
-    nodes::clear(work);
-    answer
 }

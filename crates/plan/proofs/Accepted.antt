@@ -16,10 +16,11 @@ use Rattle.plan.specs.Faults.{faultIf, firstFault}
 use Rattle.plan.specs.Tasks.{maxTasks, maxTicks, maxWeight, between, withinLimits}
 use Rattle.plan.specs.Layout.{taskCount}
 use Rattle.plan.specs.Names.{nameStart, nameField, nameOk}
-use Rattle.plan.specs.Files.{taskOf, rowFault, taskFault, layoutFault, gapFault, tasksFault, sameNameFault, fileFault, accepted, tasksFrom, tasksOf, isNamed}
+use Rattle.plan.specs.Files.{taskOf, rowFault, taskFault, layoutFault, gapFault, tasksFault, sameNameFault, fileFault, accepted, tasksFrom, tasksOf, tasksRead, isNamed}
 use Rattle.plan.specs.Inner.{areasOf, AreasOf, nameLength}
 use Rattle.plan.specs.Promises.{Names, Loads}
-use Rattle.plan.proofs.Rules.{bool, or-first, or-second, if-passed, run-passed, and-left, and-right}
+use Rattle.plan.proofs.Tests.{bool, and-left, and-right}
+use Rattle.plan.proofs.Rules.{or-first, or-second, if-passed, run-passed}
 use Rattle.plan.proofs.Fields.{name-is, name-length-le, name-some}
 use Rattle.plan.proofs.Decoding.{tasks-count}
 use Rattle.plan.proofs.Loading.{areas-of}
@@ -85,8 +86,11 @@ pub tasks-length : (s : List ℕ) → length (tasksOf s) ≡ taskCount s
 unfolding tasksOf
 tasks-length s = tasks-count s (taskCount s) 0
 
--- how many tasks a loaded plan has
-pub loaded-count : (s : List ℕ) (r : Loaded) → Loads s r → (r .plan .tasks ≡ cond (accepted s) (taskCount s) 0) × (r .plan .tasks ≤ maxTasks)
+-- READ's n, and how many tasks a loaded plan has
+pub read-few : (s : List ℕ) → tasksRead s ≤ maxTasks
+read-few s = elim (bool (accepted s)) [ inl e ↦ rw e (accepted-areas s e .few) | inr e ↦ rw e (omega arith) ]
+
+pub loaded-count : (s : List ℕ) (r : Loaded) → Loads s r → (r .plan .tasks ≡ tasksRead s) × (r .plan .tasks ≤ maxTasks)
 loaded-count s r l = elim (bool (accepted s)) [
   | inl e ↦ let k : r .plan .tasks ≡ taskCount s = rw e at (l .plan .count) ∙ tasks-length s in (rw e k, omega (arith, accepted-areas s e .few))
   | inr e ↦ let k : r .plan .tasks ≡ 0 = rw e at (l .plan .count) in (rw e k, omega arith)

@@ -18,7 +18,8 @@ use Rattle.plan.specs.Names.{nameField, nameOk}
 use Rattle.plan.specs.Files.{taskOf, rowFault, taskFault, tasksFault, tasksFrom, tasksOf}
 use Rattle.plan.specs.Inner.{decoded, numberOf, Refuses, Decodes}
 use Rattle.plan.specs.Promises.{Holds}
-use Rattle.plan.proofs.Rules.{bool, run-here, run-next, run-end}
+use Rattle.plan.proofs.Tests.{bool}
+use Rattle.plan.proofs.Rules.{run-here, run-next, run-end}
 
 -- a row's answer
 module _ (t : Task) (i : ℕ) where

@@ -11,7 +11,7 @@ use lib.Seq.{drop-cons, drop-drop, take-nil}
 use borrow.Author.Tests.{ne-eqb, le-leb, leb-true}
 use Rattle.plan.specs.Names.{isNameByte, allZero, nameThenZeros, nameOk, withoutZeros, nameField, same, namedEarlier}
 use Rattle.plan.specs.Inner.{nameLength}
-use Rattle.plan.proofs.Rules.{bool, eq-or-ne, and-left, and-right}
+use Rattle.plan.proofs.Tests.{bool, eq-or-ne, and-left, and-right}
 
 pub ne-zero : (k : ℕ) → (k ≡ 0 → ⊥) → 1 ≤ k
 ne-zero zero h = absurd (h refl)

@@ -1,4 +1,5 @@
 -- Laws of the plan file, by subject.
+pub mod Tests
 pub mod Rules
 pub mod Fields
 mod Columns

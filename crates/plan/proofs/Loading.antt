@@ -18,7 +18,8 @@ use Rattle.plan.specs.Names.{nameField, nameOk, namedEarlier}
 use Rattle.plan.specs.Files.{lengthFault, versionFault, countFault, totalFault, rowsFault, namesFault, overlapFault, layoutFault, isStray, strayFault, gapFault, taskOf, rowFault, taskFault, tasksFault, repeatFault, sameNameFault, fileFault}
 use Rattle.plan.specs.Inner.{areasOf, laidOut, layoutNumber, layoutPlace, AreasOf, Refuses, Decodes}
 use Rattle.plan.specs.Promises.{Loads}
-use Rattle.plan.proofs.Rules.{bool, or-next, or-here, or-first, or-second, if-passed, and-left, and-right, run-none, if-le, or-le, run-le}
+use Rattle.plan.proofs.Tests.{bool, and-left, and-right}
+use Rattle.plan.proofs.Rules.{or-next, or-here, or-first, or-second, if-passed, run-none, if-le, or-le, run-le}
 
 or-left : (a b : Bool) → (a || b) ≡ false → a ≡ false
 or-left true b e = e

@@ -1,28 +1,13 @@
 -- The first broken rule: of two, of a list, of a run.
 use mathlib.Core.Path.{_≡_, refl, sym, ap, _∙_}
-use mathlib.Core.Bool.{Bool, true, false, _&&_, false≢true}
-use mathlib.Core.Logic.{_⊎_, inl, inr}
+use mathlib.Core.Bool.{Bool, true, false}
+use mathlib.Core.Logic.{inl, inr}
 use Prim.Native.Nat.{ℕ, zero, suc, _+_, _-_, _≤_, _<_}
 use native.Mathlib.Omega.{arith}
-use lib.Dec.{eqb}
-use borrow.Author.Tests.{eq-eqb, ne-eqb, eqb-true, eqb-false}
+use lib.Dec.{leb}
+use borrow.Author.Tests.{le-leb, eq-eqb, ne-eqb}
 use Rattle.plan.specs.Faults.{Fault, fault, none, faultIf, orElse, firstFrom}
-
--- cases, to be taken apart in place: elim (bool t) [ inl e ↦ .. | inr e ↦ .. ]
-pub bool : (t : Bool) → (t ≡ true) ⊎ (t ≡ false)
-bool true = inl refl
-bool false = inr refl
-
-pub eq-or-ne : (a b : ℕ) → (a ≡ b) ⊎ (a ≡ b → ⊥)
-eq-or-ne a b = elim (bool (eqb a b)) [ inl e ↦ inl (eqb-true a b e) | inr e ↦ inr (eqb-false a b e) ]
-
-pub and-left : (a b : Bool) → (a && b) ≡ true → a ≡ true
-and-left true b e = refl
-and-left false b e = e
-
-pub and-right : (a b : Bool) → (a && b) ≡ true → b ≡ true
-and-right true b e = e
-and-right false b e = absurd (false≢true e)
+use Rattle.plan.proofs.Tests.{eq-or-ne}
 
 -- a rule that passed leaves the word to the next; one that did not has it
 pub or-next : (f g : Fault) → f .number ≡ 0 → orElse f g ≡ g
@@ -58,6 +43,10 @@ module _ (f : ℕ → Fault) (n i : ℕ) where
 
   pub run-if : (m p : ℕ) → i < n → f i ≡ fault (suc m) p → firstFrom f (n - i) i ≡ fault (suc m) p
   run-if m p h e = run-here h (λ z. let q : suc m ≡ 0 = sym (ap (λ g. g .number) e) ∙ z in omega arith) ∙ e
+
+  -- of tasks: the place of rule i is task i + 1
+  pub run-task : (m : ℕ) → i < n → f i ≡ fault (suc m) (suc i) → firstFrom f (n - i) i ≡ faultIf (leb 1 (i + 1)) (suc m) (i + 1)
+  run-task m h e = let a : suc i ≡ i + 1 = omega arith in rw (le-leb 1 (i + 1) (omega arith), ← a) (run-if m (suc i) h e)
 
   pub run-end : n ≤ i → firstFrom f (n - i) i ≡ none
   unfolding firstFrom

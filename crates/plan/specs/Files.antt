@@ -95,6 +95,10 @@ tasksFrom s (suc left) i = taskOf s i ∷ tasksFrom s left (suc i)
 unfoldable pub tasksOf : List ℕ → List Task
 tasksOf s = tasksFrom s (taskCount s) 0
 
+-- READ: "the file to n"; "READ's n [is] 0 when refused"
+abbrev pub tasksRead : List ℕ → ℕ
+tasksRead s = cond (accepted s) (taskCount s) 0
+
 -- whether a file is accepted and a task number, counted from 1, is one of its tasks
 abbrev pub isNamed : List ℕ → ℕ → Bool
 isNamed s task = accepted s && between 1 task (taskCount s)

@@ -9,15 +9,14 @@ use Rattle.plan.specs.declared.record.Plan.{Plan}
 use Rattle.plan.specs.declared.reader.Read.{Read}
 use Rattle.plan.specs.declared.reader.Loaded.{Loaded}
 use Rattle.plan.specs.Tasks.{wcets, periodMins, periodMaxs, deadlineCaps, weights}
-use Rattle.plan.specs.Layout.{taskCount}
 use Rattle.plan.specs.Names.{nameStart}
-use Rattle.plan.specs.Files.{fileFault, accepted, tasksOf, isNamed, nameOf}
+use Rattle.plan.specs.Files.{fileFault, accepted, tasksOf, tasksRead, isNamed, nameOf}
 
--- READ: "the file to n"; "READ's n [is] 0 when refused"
+-- READ
 pub record Reads (s : List ℕ) (r : Read) : Type 0 where
   pub number : r .number ≡ fileFault s .number
   pub place : r .place ≡ fileFault s .place
-  pub tasks : r .tasks ≡ cond (accepted s) (taskCount s) 0
+  pub tasks : r .tasks ≡ tasksRead s
 
 -- NAME: the part p′ of the bytes s that stand at p, a block and an offset into it
 pub record Names (p : ℕ × ℕ) (s : List ℕ) (task : ℕ) (p′ : ℕ × ℕ) (name : List ℕ) : Type 0 where

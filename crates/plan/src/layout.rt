@@ -10,6 +10,12 @@ use super::record::Plan;
 use super::words::word2_at;
 use super::words::word4_at;
 
+pub const HEADER_WIDTH: usize = 16;
+
+pub const ROW_WIDTH: usize = 20;
+
+pub const NAME_WIDTH: usize = 16;
+
 // Where a file's rows and names start, and how many tasks it has.
 pub struct Areas {
     pub tasks: usize,
@@ -26,7 +32,11 @@ pub enum Layout {
 fn outside(size: usize, start: usize, end: usize) -> bool
     ensures { λ r. ⌜ r ≡ outside size start end ⌝ }
 {
-    if start < 16 { true } else { size < end }
+    if start < HEADER_WIDTH {
+        true
+    } else {
+        size < end
+    }
 }
 
 fn overlap(a: usize, b: usize, c: usize, d: usize) -> bool
@@ -67,8 +77,8 @@ pub fn layout_of(file: &[u8]) -> Layout
     }
     let rows = word4_at(file, 4) as usize;
     let names = word4_at(file, 8) as usize;
-    let rows_end = rows + 20 * tasks;
-    let names_end = names + 16 * tasks;
+    let rows_end = rows + ROW_WIDTH * tasks;
+    let names_end = names + NAME_WIDTH * tasks;
     if outside(size, rows, rows_end) {
         return Layout::Broken(5, 1);
     }
@@ -86,10 +96,10 @@ fn is_stray(file: &[u8], areas: Areas, at: usize) -> bool
     requires { ⌜ AreasOf (now file) areas × (at < length (now file)) ⌝ }
     ensures { λ r. ⌜ r ≡ isStray (now (file .entry)) at ⌝ }
 {
-    if in_area(areas.rows, areas.rows + 20 * areas.tasks, at) {
+    if in_area(areas.rows, areas.rows + ROW_WIDTH * areas.tasks, at) {
         return false;
     }
-    if in_area(areas.names, areas.names + 16 * areas.tasks, at) {
+    if in_area(areas.names, areas.names + NAME_WIDTH * areas.tasks, at) {
         return false;
     }
     file[at] != 0
@@ -100,7 +110,7 @@ pub fn stray_byte(file: &[u8], areas: Areas) -> usize
     requires { ⌜ AreasOf (now file) areas ⌝ }
     ensures { λ r. ⌜ (gapFault (now (file .entry)) ≡ faultIf (leb 1 r) 7 r) × (r ≤ length (now (file .entry))) ⌝ }
 {
-    let mut at = 16;
+    let mut at = HEADER_WIDTH;
     while at < file.len() {
         if is_stray(file, areas, at) {
             return at;

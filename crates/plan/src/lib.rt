@@ -13,3 +13,4 @@ pub use reader::read_plan;
 pub use reader::task_name;
 pub use record::Plan;
 pub use record::Task;
+pub use words::between;

@@ -3,10 +3,12 @@ ghost use Prim.Native.Nat.{_+_, _≤_, _<_};
 ghost use lib.Dec.{leb};
 ghost use lib.ListN.{length, take, drop};
 ghost use Rattle.plan.specs.Faults.{faultIf};
+ghost use Rattle.plan.specs.Layout.{nameWidth};
 ghost use Rattle.plan.specs.Names.{isNameByte, allZero, nameOk, same, namedEarlier};
 ghost use Rattle.plan.specs.Files.{sameNameFault};
 ghost use Rattle.plan.specs.Inner.{AreasOf, nameLength};
 use super::layout::Areas;
+use super::layout::NAME_WIDTH;
 use super::words::between;
 use super::words::wide;
 
@@ -27,11 +29,11 @@ fn is_name_byte(b: u32) -> bool
 
 // How many name bytes a field begins with.
 pub fn name_length(file: &[u8], at: usize) -> usize
-    requires { ⌜ at + 16 ≤ length (now file) ⌝ }
-    ensures { λ r. ⌜ (r ≡ nameLength (take 16 (drop at (now (file .entry))))) × (r ≤ 16) ⌝ }
+    requires { ⌜ at + nameWidth ≤ length (now file) ⌝ }
+    ensures { λ r. ⌜ (r ≡ nameLength (take nameWidth (drop at (now (file .entry))))) × (r ≤ nameWidth) ⌝ }
 {
     let mut k = 0;
-    while k < 16 {
+    while k < NAME_WIDTH {
         if !is_name_byte(wide(file[at + k])) {
             return k;
         }
@@ -56,23 +58,23 @@ fn all_zero(file: &[u8], at: usize, n: usize) -> bool
 
 // Rule 10 of the field at an offset.
 pub fn name_ok(file: &[u8], at: usize) -> bool
-    requires { ⌜ at + 16 ≤ length (now file) ⌝ }
-    ensures { λ r. ⌜ r ≡ nameOk (take 16 (drop at (now (file .entry)))) ⌝ }
+    requires { ⌜ at + nameWidth ≤ length (now file) ⌝ }
+    ensures { λ r. ⌜ r ≡ nameOk (take nameWidth (drop at (now (file .entry)))) ⌝ }
 {
     let k = name_length(file, at);
     if k == 0 {
         return false;
     }
-    all_zero(file, at + k, 16 - k)
+    all_zero(file, at + k, NAME_WIDTH - k)
 }
 
-// Whether two fields of 16 bytes are equal.
+// Whether two fields are equal.
 fn same_field(file: &[u8], a: usize, b: usize) -> bool
-    requires { ⌜ (a + 16 ≤ length (now file)) × (b + 16 ≤ length (now file)) ⌝ }
-    ensures { λ r. ⌜ r ≡ same (take 16 (drop a (now (file .entry)))) (take 16 (drop b (now (file .entry)))) ⌝ }
+    requires { ⌜ (a + nameWidth ≤ length (now file)) × (b + nameWidth ≤ length (now file)) ⌝ }
+    ensures { λ r. ⌜ r ≡ same (take nameWidth (drop a (now (file .entry)))) (take nameWidth (drop b (now (file .entry)))) ⌝ }
 {
     let mut k = 0;
-    while k < 16 {
+    while k < NAME_WIDTH {
         if file[a + k] != file[b + k] {
             return false;
         }
@@ -88,7 +90,7 @@ fn named_earlier(file: &[u8], areas: Areas, i: usize) -> bool
     let names = areas.names;
     let mut j = 0;
     while j < i {
-        if same_field(file, names + 16 * i, names + 16 * j) {
+        if same_field(file, names + NAME_WIDTH * i, names + NAME_WIDTH * j) {
             return true;
         }
         j += 1;

@@ -2,6 +2,8 @@ ghost use Rattle.plan.specs.Promises.{Reads, Names, Loads};
 ghost use Rattle.plan.specs.Inner.{AreasOf, layoutNumber, layoutPlace, Refuses, Decodes};
 use super::layout::Areas;
 use super::layout::Layout;
+use super::layout::NAME_WIDTH;
+use super::layout::ROW_WIDTH;
 use super::layout::layout_of;
 use super::layout::stray_byte;
 use super::names::name_length;
@@ -58,11 +60,11 @@ fn decode_tasks(file: &[u8], areas: Areas) -> Loaded
     let mut plan = Plan::new();
     let mut i = 0;
     while i < n {
-        let row = row_at(file, rows + 20 * i);
+        let row = row_at(file, rows + ROW_WIDTH * i);
         let Row::Decoded(task) = row else {
             return refused(number_of(row), (i + 1) as u32);
         };
-        if !name_ok(file, names + 16 * i) {
+        if !name_ok(file, names + NAME_WIDTH * i) {
             return refused(10, (i + 1) as u32);
         }
         plan = plan.with_task(task);
@@ -121,7 +123,7 @@ pub fn task_name<'a>(file: &'a [u8], task: u32) -> &'a [u8]
     if !between(1, task, read.tasks) {
         return &file[..0];
     }
-    let at = word4_at(file, 8) as usize + 16 * (task as usize - 1);
+    let at = word4_at(file, 8) as usize + NAME_WIDTH * (task as usize - 1);
     let end = at + name_length(file, at);
     &file[at..end]
 }

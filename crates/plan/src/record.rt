@@ -1,7 +1,7 @@
 ghost use mathlib.Core.Path.{_≡_};
 ghost use mathlib.Core.List.{List, [], _∷_, _++_};
 ghost use Prim.Native.Nat.{_<_};
-ghost use Rattle.plan.specs.Tasks.{withinLimits};
+ghost use Rattle.plan.specs.Tasks.{maxTasks, withinLimits};
 ghost use Rattle.plan.specs.Promises.{Holds};
 ghost use Rattle.plan.specs.declared.record.Task as T;
 use super::words::between;
@@ -52,7 +52,7 @@ impl Plan {
 
     // The plan with one task more, below the others.
     pub(crate) fn with_task(mut self, t: Task) -> Plan
-        requires { ⌜ self .tasks < 16 ⌝ }
+        requires { ⌜ self .tasks < maxTasks ⌝ }
         ensures { λ r. ⌜ ((ts : List T.Task) → Holds self ts → Holds r (ts ++ (t ∷ []))) ⌝ }
     {
         let k = self.tasks;

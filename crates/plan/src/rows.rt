@@ -1,7 +1,7 @@
 ghost use mathlib.Core.Path.{_≡_};
 ghost use Prim.Native.Nat.{_+_, _≤_};
 ghost use lib.ListN.{length};
-ghost use Rattle.plan.specs.Tasks.{rowAt};
+ghost use Rattle.plan.specs.Tasks.{rowWidth, rowAt};
 ghost use Rattle.plan.specs.Inner.{decoded, numberOf};
 use super::record::Task;
 use super::words::word4_at;
@@ -25,7 +25,7 @@ fn checked(t: Task) -> Row
 }
 
 pub fn row_at(file: &[u8], at: usize) -> Row
-    requires { ⌜ at + 20 ≤ length (now file) ⌝ }
+    requires { ⌜ at + rowWidth ≤ length (now file) ⌝ }
     ensures { λ r. ⌜ r ≡ decoded (rowAt (now (file .entry)) at) ⌝ }
 {
     checked(Task {

@@ -8,8 +8,8 @@ use native.Mathlib.Numerals.{add-one}
 use lib.ListN.{length, getD, drop, set}
 use lib.Seq.{drop-cons, getD-set-same, getD-set-other, ext-getD}
 use borrow.Author.Tests.{eq-eqb, ne-eqb}
+use Rattle.plan.proofs.Tests.{eq-or-ne}
 use Rattle.response.specs.Analysis.{Timing, taskTotal, responseTime, responseTimesFrom, responseTimes, missedCount, firstMissedFrom}
-use Rattle.response.proofs.Tests.{eq-or-ne}
 
 module _ (T : Timing) (xs : List ℕ) where
   from-length : (left i : ℕ) → length (responseTimesFrom T xs left i) ≡ left

@@ -5,12 +5,12 @@ use mathlib.Core.List.{List, [], _∷_, map}
 use Prim.Native.Nat.{ℕ, suc, _≤_}
 use native.Mathlib.Omega.{arith}
 use lib.Dec.{leb}
-use lib.ListN.{length, getD, set, length-set}
+use lib.ListN.{length, getD, set, length-set, length-map}
 use borrow.Author.Tests.{leb-true, le-leb}
 use Rattle.plan.specs.declared.record.Task.{Task}
 use Rattle.plan.specs.Tasks.{between, periodMins, periodMaxs}
+use Rattle.plan.proofs.Tests.{and-left, and-right, and-both}
 use Rattle.response.specs.Assignments.{dominates, withinBounds}
-use Rattle.response.proofs.Tests.{and-left, and-right, and-both}
 use Rattle.response.proofs.Dominance.{AtMost, dominates-at-most, at-most-cons, at-most-set, set-at-most}
 
 pub record Within (ts : List Task) (xs : List ℕ) : Type 0 where
@@ -40,17 +40,13 @@ true-within (t ∷ ts) (x ∷ xs) w =
     (and-both (le-leb (t .«period_min») x (w .low 0)) (le-leb x (t .«period_max») (w .high 0)))
     (true-within ts xs (record { sized = omega (arith, w .sized); low = λ k. w .low (suc k); high = λ k. w .high (suc k) }))
 
-length-column : (f : Task → ℕ) (ts : List Task) → length (map f ts) ≡ length ts
-length-column f [] = refl
-length-column f (t ∷ ts) = ap suc (length-column f ts)
-
 -- no task has its bounds the wrong way round
 module _ (ts : List Task) (ranged : AtMost (periodMins ts) (periodMaxs ts)) where
   pub mins-within : Within ts (periodMins ts)
-  mins-within = record { sized = length-column (λ t. t .«period_min») ts; low = λ k. omega arith; high = ranged }
+  mins-within = record { sized = length-map ts (λ t. t .«period_min»); low = λ k. omega arith; high = ranged }
 
   pub maxs-within : Within ts (periodMaxs ts)
-  maxs-within = record { sized = length-column (λ t. t .«period_max») ts; low = ranged; high = λ k. omega arith }
+  maxs-within = record { sized = length-map ts (λ t. t .«period_max»); low = ranged; high = λ k. omega arith }
 
 pub dominates-within : {ts : List Task} {xs ys : List ℕ} → Within ts xs → Within ts ys → dominates ys xs ≡ true → AtMost xs ys
 dominates-within {ts} {xs} {ys} v w e = dominates-at-most xs ys (v .sized ∙ sym (w .sized)) e

@@ -10,8 +10,8 @@ use lib.ListN.{length, getD, set}
 use lib.Seq.{getD-set-same, getD-set-other, set-set, set-out, ext-getD}
 use borrow.Author.Tests.{leb-true, eqb-true, le-leb, lt-leb, eq-eqb}
 use Rattle.plan.specs.Names.{same}
+use Rattle.plan.proofs.Tests.{le-or-lt, eq-or-ne, not-false, and-left, and-right, and-both}
 use Rattle.response.specs.Assignments.{dominates}
-use Rattle.response.proofs.Tests.{le-or-lt, eq-or-ne, not-false, and-left, and-right, and-both}
 
 pub same-refl : (xs : List ℕ) → same xs xs ≡ true
 same-refl [] = refl
@@ -87,6 +87,3 @@ at-most-set xs i {v} h k = elim (set-cases xs i v k) [ inl s ↦ rw (s .1, s .0)
 
 pub set-at-most : (xs ys : List ℕ) (i : ℕ) {v : ℕ} → AtMost xs ys → v ≤ getD ys i 0 → AtMost (set xs i v) ys
 set-at-most xs ys i {v} a h k = elim (set-cases xs i v k) [ inl s ↦ rw (s .1, s .0) h | inr s ↦ rw s (a k) ]
-
-pub set-mono : (xs : List ℕ) (i a : ℕ) {b : ℕ} → getD xs i 0 ≤ b → a ≤ b → AtMost (set xs i a) (set xs i b)
-set-mono xs i a {b} p q = rw (← set-set xs i a b) (at-most-set (set xs i a) i (elim (set-cases xs i a i) [ inl s ↦ omega (arith, s .1) | inr s ↦ omega (arith, s) ]))

@@ -5,9 +5,9 @@ use mathlib.Core.List.{List}
 use Prim.Native.Nat.{ℕ, zero, suc, _+_, _≤_, _<_}
 use native.Mathlib.Omega.{arith}
 use borrow.Author.Tests.{lt-ltb, le-ltb, le-leb, lt-leb}
+use Rattle.plan.proofs.Tests.{le-or-lt}
 use Rattle.response.specs.Analysis.{Timing, ownDemand, demand, deadline, climbFrom, responseTime}
 use Rattle.response.specs.Claims.{Covers, IsResponseTime}
-use Rattle.response.proofs.Tests.{le-or-lt}
 use Rattle.response.proofs.Demand.{demand-monotone, demand-own}
 
 module _ (T : Timing) (xs : List ℕ) (i : ℕ) where

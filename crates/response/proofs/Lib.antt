@@ -1,5 +1,4 @@
 -- Laws of response-time analysis and of period assignments, by subject.
-pub mod Tests
 pub mod Ceiling
 pub mod Demand
 pub mod Exactness

@@ -6,8 +6,8 @@ use Prim.Native.Nat.{ℕ, _≤_}
 use lib.ListN.{length, set, length-set}
 use lib.Seq.{getD-set-same, getD-set-other, set-out}
 use Rattle.plan.specs.Tasks.{maxTicks}
+use Rattle.plan.proofs.Tests.{le-or-lt, eq-or-ne}
 use Rattle.response.specs.Inner.{Limits}
-use Rattle.response.proofs.Tests.{le-or-lt, eq-or-ne}
 
 pub limits-set : {wcet xs : List ℕ} → Limits wcet xs → (i v : ℕ) → 1 ≤ v → v ≤ maxTicks → Limits wcet (set xs i v)
 limits-set {wcet} {xs} l i v p q =

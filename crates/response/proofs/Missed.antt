@@ -6,8 +6,8 @@ use mathlib.Core.List.{List}
 use Prim.Native.Nat.{ℕ, zero, suc, _+_, _≤_, _<_}
 use native.Mathlib.Omega.{arith}
 use borrow.Author.Tests.{leb-true, leb-false, eq-eqb, ne-eqb}
+use Rattle.plan.proofs.Tests.{bool, eq-or-ne}
 use Rattle.response.specs.Analysis.{Timing, taskTotal, responseTime, meets, firstMeet, schedulable, responseTimesFrom, responseTimes, firstMissedFrom, firstMissed}
-use Rattle.response.proofs.Tests.{bool, eq-or-ne}
 use Rattle.response.proofs.Sustainable.{first-all, schedulable-all}
 
 -- task k misses its deadline, and every task above it meets its own

@@ -9,9 +9,9 @@ use native.Mathlib.Omega.{arith}
 use native.Mathlib.Nat.{mul-le-mul-left}
 use lib.Dec.{eqb, ltb}
 use lib.ListN.{length}
-use borrow.Author.Tests.{ltb-true, eqb-true, lt-ltb, le-ltb, eq-eqb}
+use borrow.Author.Tests.{ltb-true, eqb-true, lt-ltb, le-ltb, eq-eqb, ne-eqb}
+use Rattle.plan.proofs.Tests.{bool, le-or-lt, eq-or-ne, both, not-false, and-left, and-right, or-cases}
 use Rattle.response.specs.Assignments.{cost, before, less}
-use Rattle.response.proofs.Tests.{bool, le-or-lt, eq-or-ne, both, not-false, or-cases, and-left, and-right}
 use Rattle.response.proofs.Dominance.{AtMost, at-most-cons}
 
 -- by a first number, then by a test b
@@ -21,6 +21,9 @@ module _ (x y : ℕ) (b : Bool) where
 
   pub first-eq : x ≡ y → ltb x y || (eqb x y && b) ≡ b
   first-eq h = rw (le-ltb x y (omega arith), eq-eqb x y h)
+
+  pub first-gt : y < x → ltb x y || (eqb x y && b) ≡ false
+  first-gt h = rw (le-ltb x y (omega arith), ne-eqb x y (λ e. omega arith))
 
   pub first-true : ltb x y || (eqb x y && b) ≡ true → (x < y) ⊎ ((x ≡ y) × (b ≡ true))
   first-true e = elim (or-cases (ltb x y) _ e) [ inl t ↦ inl (ltb-true x y t) | inr t ↦ inr (eqb-true x y (and-left (eqb x y) b t), and-right (eqb x y) b t) ]
@@ -54,9 +57,6 @@ before-total (x ∷ xs) (y ∷ ys) e f = elim (first-false x y _ e) [
   | inl h ↦ absurd (both (first-lt y x _ h) f)
   | inr h ↦ ap₂ _∷_ (h .0) (before-total xs ys (h .1) (sym (first-eq y x _ (sym (h .0))) ∙ f))
 ]
-
-pub before-cases : (xs ys : List ℕ) → (before xs ys ≡ true) ⊎ (xs ≡ ys) ⊎ (before ys xs ≡ true)
-before-cases xs ys = elim (bool (before xs ys)) [ inl e ↦ inl e | inr e ↦ elim (bool (before ys xs)) [ inl f ↦ inr (inr f) | inr f ↦ inr (inl (before-total xs ys e f)) ] ]
 
 -- one that dominates never comes before
 pub before-at-most : (xs ys : List ℕ) → length xs ≡ length ys → AtMost xs ys → before ys xs ≡ false
@@ -98,9 +98,6 @@ module _ (ws : List ℕ) where
     -- at or after is the same or later
     pub same-or-later : less ws ys xs ≡ false → (xs ≡ ys) ⊎ (less ws xs ys ≡ true)
     same-or-later e = elim (bool (less ws xs ys)) [ inl t ↦ inr t | inr t ↦ inl (less-total t e) ]
-
-    pub less-cases : (less ws xs ys ≡ true) ⊎ (xs ≡ ys) ⊎ (less ws ys xs ≡ true)
-    less-cases = elim (before-cases (keyed xs) (keyed ys)) [ inl e ↦ inl e | inr e ↦ elim e [ inl f ↦ inr (inl (cc)) | inr f ↦ inr (inr f) ] ]
 
     pub not-less-cost : less ws ys xs ≡ false → cost ws xs ≤ cost ws ys
     not-less-cost e = elim (first-false (cost ws ys) (cost ws xs) _ e) [ inl h ↦ omega arith | inr h ↦ omega (arith, h .0) ]

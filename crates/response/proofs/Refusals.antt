@@ -3,44 +3,28 @@ use mathlib.Core.Path.{_≡_, _∙_}
 use mathlib.Core.Bool.{true, false, not}
 use mathlib.Core.Logic.{inl, inr}
 use mathlib.Core.List.{List, [], _∷_}
-use Prim.Native.Nat.{ℕ, suc, _+_, _-_, _≤_, _<_}
+use Prim.Native.Nat.{ℕ, suc, _≤_, _<_}
 use native.Mathlib.Omega.{arith}
 use lib.Dec.{leb}
 use lib.ListN.{length, getD, length-map, List·getD-eq-default}
 use borrow.Author.Tests.{eq-eqb, ne-eqb, leb-true, le-leb, not-false}
 use Rattle.plan.specs.declared.record.Task.{Task}
-use Rattle.plan.specs.Faults.{fault, none, faultIf, firstFault, firstFrom}
+use Rattle.plan.specs.Faults.{fault, none, faultIf, firstFault}
 use Rattle.plan.specs.Tasks.{between, wcets, periodMins, periodMaxs}
 use Rattle.plan.specs.Layout.{taskCount}
 use Rattle.plan.specs.Files.{fileFault, tasksOf}
-use Rattle.plan.proofs.Rules.{or-next, or-here, if-passed, run-if, run-next, run-passed, and-left, and-right}
+use Rattle.plan.proofs.Tests.{le-or-lt, both, and-left, and-right}
+use Rattle.plan.proofs.Rules.{or-next, or-here, if-passed, run-passed}
 use Rattle.plan.proofs.Fields.{ne-zero}
 use Rattle.plan.proofs.Accepted.{accepted-sane, tasks-length}
 use Rattle.response.specs.declared.times.Times.{Times}
 use Rattle.response.specs.Analysis.{timingOf, missedCount, firstMissed}
 use Rattle.response.specs.Inner.{refusal}
 use Rattle.response.specs.Promises.{boundFault, boundsFault, timesFault, timesOf, Analyses}
-use Rattle.response.proofs.Tests.{le-or-lt, both}
 use Rattle.response.proofs.Bounds.{Within}
 use Rattle.response.proofs.Exactness.{response-exact}
 use Rattle.response.proofs.Plans.{sane-at}
 use Rattle.response.proofs.Answers.{times-at}
-
--- the run of rule 23 stands at task i: its period is outside its bounds, or the run goes on
-module _ (mins maxs xs : List ℕ) where
-  abbrev pub BoundsFrom : ℕ → Type 0
-  BoundsFrom i = firstFrom (boundFault mins maxs xs) (length xs) 0 ≡ firstFrom (boundFault mins maxs xs) (length xs - i) i
-
-  module _ (i : ℕ) (l : i < length xs) (so-far : BoundsFrom i) where
-    pub bound-broken : between (getD mins i 0) (getD xs i 0) (getD maxs i 0) ≡ false
-        → firstFrom (boundFault mins maxs xs) (length xs) 0 ≡ faultIf (leb 1 (i + 1)) 23 (i + 1)
-    bound-broken e =
-        let a : suc i ≡ i + 1 = omega arith in
-        rw (le-leb 1 (i + 1) (omega arith))
-        (so-far ∙ run-if (boundFault mins maxs xs) (length xs) i 22 (i + 1) l (rw (e, a)))
-
-    pub bound-kept : between (getD mins i 0) (getD xs i 0) (getD maxs i 0) ≡ true → BoundsFrom (i + 1)
-    bound-kept e = so-far ∙ run-next (boundFault mins maxs xs) (length xs) i l (rw e)
 
 -- no period outside its bounds
 pub bounds-within : (ts : List Task) (xs : List ℕ) → length xs ≡ length ts → boundsFault ts xs .number ≡ 0 → Within ts xs

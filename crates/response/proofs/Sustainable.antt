@@ -9,9 +9,9 @@ use lib.Dec.{ltb, leb}
 use lib.ListN.{getD, set}
 use lib.Seq.{getD-set-other}
 use borrow.Author.Tests.{leb-true, le-leb}
+use Rattle.plan.proofs.Tests.{eq-or-ne, both, not-false, and-left, and-right, and-both}
 use Rattle.response.specs.Analysis.{Timing, taskTotal, ownDemand, demand, deadline, climbFrom, responseTime, meets, firstMeet, schedulable}
 use Rattle.response.specs.Claims.{Covers}
-use Rattle.response.proofs.Tests.{eq-or-ne, both, and-left, and-right, and-both, not-false}
 use Rattle.response.proofs.Demand.{demand-antitone, demand-same}
 use Rattle.response.proofs.Exactness.{response-exact}
 

@@ -12,10 +12,23 @@ fn wide(x: u32) -> u64
     x as u64
 }
 
-fn lesser(a: u32, b: u32) -> u32
-    ensures { λ r. ⌜ r ≡ min a b ⌝ }
+// A task's deadline at a period.
+pub fn deadline_of(period: u32, deadline_cap: u32) -> u32
+    ensures { λ r. ⌜ r ≡ min period «deadline_cap» ⌝ }
 {
-    if a < b { a } else { b }
+    if period < deadline_cap {
+        period
+    } else {
+        deadline_cap
+    }
+}
+
+// a over b, rounded up.
+pub fn rounded_up(a: u32, b: u32) -> u32
+    requires { ⌜ (a ≤ maxTicks) × ((1 ≤ b) × (b ≤ maxTicks)) ⌝ }
+    ensures { λ r. ⌜ (r ≡ ceiling a b) × (r ≤ 2 * maxTicks) ⌝ }
+{
+    (a + b - 1) / b
 }
 
 // What one task above demands by t.
@@ -23,7 +36,7 @@ fn interference(wcet: u32, period: u32, t: u32) -> u64
     requires { ⌜ (wcet ≤ maxTicks) × (((1 ≤ period) × (period ≤ maxTicks)) × (t ≤ maxTicks)) ⌝ }
     ensures { λ r. ⌜ (r ≡ wcet * ceiling t period) × (r ≤ 2 * maxTicks * maxTicks) ⌝ }
 {
-    wide(wcet) * wide((t + period - 1) / period)
+    wide(wcet) * wide(rounded_up(t, period))
 }
 
 // What task i and the tasks above it demand by t; the caps have no part in it.
@@ -45,7 +58,7 @@ pub fn response_time(wcet: &[u32], deadline_cap: &[u32], periods: &[u32], i: usi
     requires { ⌜ (Limits (now wcet) (now periods)) × ((i < length (now wcet)) × (i < length (now «deadline_cap»))) ⌝ }
     ensures { λ r. ⌜ r ≡ responseTime (timing (now (wcet .entry)) (now («deadline_cap» .entry))) (now (periods .entry)) i ⌝ }
 {
-    let deadline = lesser(periods[i], deadline_cap[i]);
+    let deadline = deadline_of(periods[i], deadline_cap[i]);
     let mut t = wcet[i];
     if deadline < t {
         return 0;

@@ -3,8 +3,10 @@ mod schedulability; // schedulability.rt: all tasks at once
 mod climb; // climb.rt: demand and response time of one task
 mod times; // times.rt: TIMES
 
+pub use climb::deadline_of;
 pub use climb::meets_deadline;
 pub use climb::response_time;
+pub use climb::rounded_up;
 pub use schedulability::first_missed;
 pub use schedulability::is_schedulable;
 pub use times::Times;

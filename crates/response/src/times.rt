@@ -38,10 +38,7 @@ fn out_of_bounds(period_min: &[u32], period_max: &[u32], periods: &[u32]) -> u32
 {
     let mut i: usize = 0;
     while i < periods.len() {
-        if periods[i] < period_min[i] {
-            return (i + 1) as u32;
-        }
-        if period_max[i] < periods[i] {
+        if !plan::between(period_min[i], periods[i], period_max[i]) {
             return (i + 1) as u32;
         }
         i += 1;

@@ -4,7 +4,8 @@ use Prim.Native.Nat.{ℕ}
 use lib.ListN.{length-take, length-replicate}
 use borrow.Author.Needs.{needs}
 use lib.Seq.{length-front}
-use Rattle.desk.proofs.Calling.{tasks-few, wrong-block, right-block}
+use Rattle.plan.proofs.Accepted.{read-few}
+use Rattle.desk.proofs.Calling.{wrong-block, right-block}
 use Rattle.desk.proofs.call.desk_call.Statement.{statement}
 use Rattle.desk.proofs.call.desk_call.Tie as tie
 
@@ -21,11 +22,11 @@ cast-n c = search needs
 
 array-borrow-prefix-periods : tie.Need-array-borrow-prefix-periods
 array-borrow-prefix-periods c =
-    omega (arith, tasks-few (c .before .before .before .before .before .args .file .now))
+    omega (arith, read-few (c .before .before .before .before .before .args .file .now))
 
 slice-aggregate-cheapest-periods : tie.Need-slice-aggregate-cheapest-periods
 slice-aggregate-cheapest-periods c =
-    simp length-take (omega (arith, tasks-few (c .before .before .before .before .before .before .args .file .now)))
+    simp length-take (omega (arith, read-few (c .before .before .before .before .before .before .args .file .now)))
 
 slice-aggregate-cheapest-periods-2 : tie.Need-slice-aggregate-cheapest-periods-2
 slice-aggregate-cheapest-periods-2 c = search needs

@@ -3,7 +3,7 @@ use mathlib.Core.Path.{sym, _∙_}
 use Prim.Native.Nat.{_≤_}
 use lib.Seq.{length-take-le}
 use borrow.Author.Needs.{needs}
-use Rattle.listing.proofs.Outcomes.{read-few}
+use Rattle.plan.proofs.Accepted.{read-few}
 use Rattle.listing.proofs.listing.list_plan.Statement.{statement}
 use Rattle.listing.proofs.listing.list_plan.Tie as tie
 

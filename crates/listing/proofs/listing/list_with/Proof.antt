@@ -3,7 +3,8 @@ use mathlib.Core.List.{[], _∷_}
 use borrow.Author.Needs.{needs}
 use Rattle.listing.specs.Text.{decimal, roundsWord, refusedWord, boundWord}
 use Rattle.listing.proofs.Writing.{then, then-fields}
-use Rattle.listing.proofs.Outcomes.{read-few, lists, answered-times, answer-text, refusal-text, stop-text}
+use Rattle.plan.proofs.Accepted.{read-few}
+use Rattle.listing.proofs.Outcomes.{lists, answered-times, answer-text, refusal-text, stop-text}
 use Rattle.listing.proofs.listing.list_with.Statement.{statement}
 use Rattle.listing.proofs.listing.list_with.Tie as tie
 

@@ -1,14 +1,13 @@
 use mathlib.Core.Path.{_≡_, _∙_}
-use Prim.Native.Nat.{ℕ, _+_, _-_}
+use Prim.Native.Nat.{ℕ, _-_}
 use borrow.Author.Needs.{needs}
+use borrow.Author.Tests.{lt-ltb, le-ltb}
 use native.Mathlib.Omega.{arith}
-use borrow.Author.Tests.{le-leb}
 use lib.ListN.{length}
-use Rattle.plan.specs.Faults.{firstFrom}
-use Rattle.plan.proofs.Rules.{run-end}
+use Rattle.plan.specs.Faults.{Fault, firstFrom}
+use Rattle.plan.proofs.Rules.{run-task, run-next, run-end}
 use Rattle.response.specs.Analysis.{timing}
 use Rattle.optimizer.specs.Promises.{aloneFault}
-use Rattle.optimizer.proofs.Concluding.{alone-at, alone-next}
 use Rattle.optimizer.proofs.cheapest.infeasible_alone.Statement.{statement}
 use Rattle.optimizer.proofs.cheapest.infeasible_alone.Tie as tie
 
@@ -18,20 +17,36 @@ Inv-loop wcet deadline-cap period-max i₀ i = firstFrom (aloneFault (timing wce
 abbrev μ-loop : tie.MeasureT-loop
 μ-loop wcet deadline-cap period-max i₀ i = length wcet - i
 
+-- rule 31, and how many tasks it is tested of
+abbrev rule : tie.At-loop Inv-loop μ-loop → ℕ → Fault
+rule c = let a = c .before .before .before .before .args in aloneFault (timing (a .wcet .now) (a .deadline-cap .now)) (a .period-max .now)
+
+abbrev count : tie.At-loop Inv-loop μ-loop → ℕ
+count c = length (c .before .before .before .before .args .wcet .now)
+
 loop-holds : tie.Need-loop-holds Inv-loop μ-loop
-loop-holds c = let e : length (c .args .wcet .now) - 0 ≡ length (c .args .wcet .now) = omega arith in rw e
+loop-holds c = let n : ℕ = length (c .before .before .before .args .wcet .now) in let e : n - 0 ≡ n = omega arith in rw e
+
+mul-deadline-of : tie.Need-mul-deadline-of Inv-loop μ-loop
+mul-deadline-of c = search needs
+
+shared-slice-read-deadline-of : tie.Need-shared-slice-read-deadline-of Inv-loop μ-loop
+shared-slice-read-deadline-of c = search needs
+
+mul-deadline-of-2 : tie.Need-mul-deadline-of-2 Inv-loop μ-loop
+mul-deadline-of-2 c = search needs
+
+shared-slice-read-deadline-of-2 : tie.Need-shared-slice-read-deadline-of-2 Inv-loop μ-loop
+shared-slice-read-deadline-of-2 c = search needs
+
+deadline-of-requires : tie.Need-deadline-of-requires Inv-loop μ-loop
+deadline-of-requires c κs = search needs
 
 mul-if1 : tie.Need-mul-if1 Inv-loop μ-loop
 mul-if1 c = search needs
 
 shared-slice-read-if1 : tie.Need-shared-slice-read-if1 Inv-loop μ-loop
 shared-slice-read-if1 c = search needs
-
-mul-if1-2 : tie.Need-mul-if1-2 Inv-loop μ-loop
-mul-if1-2 c = search needs
-
-shared-slice-read-if1-2 : tie.Need-shared-slice-read-if1-2 Inv-loop μ-loop
-shared-slice-read-if1-2 c = search needs
 
 add-result : tie.Need-add-result Inv-loop μ-loop
 add-result c = search needs
@@ -41,31 +56,8 @@ cast-result c = search needs
 
 returns : tie.Need-returns Inv-loop μ-loop
 returns c =
-    let a = c .before .before .before .before .before .args in let i : ℕ = c .before .before .before .before .loop .i in let T = timing (a .wcet .now) (a .deadline-cap .now) in
-    rw (le-leb 1 (i + 1) (omega arith)) (c .before .before .before .before .loop .inv ∙ alone-at T (a .period-max .now) (length (a .wcet .now)) i (omega arith) (omega arith))
-
-mul-if2 : tie.Need-mul-if2 Inv-loop μ-loop
-mul-if2 c = search needs
-
-shared-slice-read-if2 : tie.Need-shared-slice-read-if2 Inv-loop μ-loop
-shared-slice-read-if2 c = search needs
-
-mul-if2-2 : tie.Need-mul-if2-2 Inv-loop μ-loop
-mul-if2-2 c = search needs
-
-shared-slice-read-if2-2 : tie.Need-shared-slice-read-if2-2 Inv-loop μ-loop
-shared-slice-read-if2-2 c = search needs
-
-add-result-2 : tie.Need-add-result-2 Inv-loop μ-loop
-add-result-2 c = search needs
-
-cast-result-2 : tie.Need-cast-result-2 Inv-loop μ-loop
-cast-result-2 c = search needs
-
-returns-2 : tie.Need-returns-2 Inv-loop μ-loop
-returns-2 c =
-    let a = c .before .before .before .before .before .before .before .before .args in let i : ℕ = c .before .before .before .before .before .before .before .loop .i in let T = timing (a .wcet .now) (a .deadline-cap .now) in
-    rw (le-leb 1 (i + 1) (omega arith)) (c .before .before .before .before .before .before .before .loop .inv ∙ alone-at T (a .period-max .now) (length (a .wcet .now)) i (omega arith) (omega arith))
+    let l = c .before .before .before .before .before .before in
+    l .loop .inv ∙ run-task (rule l) (count l) (l .loop .i) 30 (omega arith) (rw (lt-ltb _ _ (rw (c .before .before .deadline-of .ensures) at (c .if1 .taken))))
 
 add-i : tie.Need-add-i Inv-loop μ-loop
 add-i c = search needs
@@ -75,11 +67,30 @@ loop-less c = search needs
 
 loop-again : tie.Need-loop-again Inv-loop μ-loop
 loop-again c =
-    let a = c .before .before .before .before .before .before .before .before .args in let i : ℕ = c .before .before .before .before .before .before .before .loop .i in let T = timing (a .wcet .now) (a .deadline-cap .now) in
-    c .before .before .before .before .before .before .before .loop .inv ∙ alone-next T (a .period-max .now) (length (a .wcet .now)) i (omega arith) (omega arith)
+    let l = c .before .before .before .before .before .before in
+    l .loop .inv ∙ run-next (rule l) (count l) (l .loop .i) (omega arith) (rw (le-ltb _ _ (rw (c .before .before .deadline-of .ensures) at (c .if1 .left))))
 
-returns-3 : tie.Need-returns-3 Inv-loop μ-loop
-returns-3 c = c .before .loop .inv ∙ run-end (aloneFault (timing (c .before .before .args .wcet .now) (c .before .before .args .deadline-cap .now)) (c .before .before .args .period-max .now)) (length (c .before .before .args .wcet .now)) (c .before .loop .i) (omega arith)
+returns-2 : tie.Need-returns-2 Inv-loop μ-loop
+returns-2 c = let l = c .before in l .loop .inv ∙ run-end (rule l) (count l) (l .loop .i) (omega arith)
 
 pub infeasible-alone-spec : {M : Type 1} → statement M
-infeasible-alone-spec = tie.close (tie.spec Inv-loop μ-loop loop-holds mul-if1 shared-slice-read-if1 mul-if1-2 shared-slice-read-if1-2 add-result cast-result returns mul-if2 shared-slice-read-if2 mul-if2-2 shared-slice-read-if2-2 add-result-2 cast-result-2 returns-2 add-i loop-less loop-again returns-3)
+infeasible-alone-spec =
+    tie.close
+    (tie.spec
+    Inv-loop
+    μ-loop
+    loop-holds
+    mul-deadline-of
+    shared-slice-read-deadline-of
+    mul-deadline-of-2
+    shared-slice-read-deadline-of-2
+    deadline-of-requires
+    mul-if1
+    shared-slice-read-if1
+    add-result
+    cast-result
+    returns
+    add-i
+    loop-less
+    loop-again
+    returns-2)

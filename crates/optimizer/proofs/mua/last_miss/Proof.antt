@@ -54,7 +54,7 @@ rounded-up-requires-2 c κs =
     let r = c .before .before .response-time .result in
     let p = c .before .before .before .before .probe .result in
     let l = responds (c .before) in
-    rw (c .rounded-up .ensures) (l, (ceiling-some r p (omega arith) (omega arith), omega (arith, ceiling-upto r p (omega arith))))
+    rw (c .rounded-up .ensures .0) (l, (ceiling-some r p (omega arith) (omega arith), omega (arith, ceiling-upto r p (omega arith))))
 
 add-turn : tie.Need-add-turn Inv-loop μ-loop
 add-turn c = search needs
@@ -70,7 +70,7 @@ loop-again c =
     let e = c .before .response-time .ensures in
     ⊎-elim
     (λ w. rw (w .1, w .2) (probing-miss (q .0) (q .1) g (p .ensures) e (w .0 .taken)))
-    (λ w. rw (w .3, w .4, w .2 .ensures, w .1 .ensures) (probing-meet (q .0) (q .1) g (p .ensures) e (omega arith)))
+    (λ w. rw (w .3, w .4, w .2 .ensures .0, w .1 .ensures .0) (probing-meet (q .0) (q .1) g (p .ensures) e (omega arith)))
     (c .if1 .came)
 
 same-length : tie.Need-same-length Inv-loop μ-loop

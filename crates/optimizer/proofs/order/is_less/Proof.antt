@@ -2,8 +2,7 @@ use native.Mathlib.Omega.{arith}
 use borrow.Author.Needs.{needs}
 use mathlib.Core.Path.{sym, _∙_}
 use Prim.Native.Nat.{_<_}
-use Rattle.response.proofs.Order.{first-lt, first-eq}
-use Rattle.optimizer.proofs.Scans.{first-gt}
+use Rattle.response.proofs.Order.{first-lt, first-eq, first-gt}
 use Rattle.optimizer.proofs.order.is_less.Statement.{statement}
 use Rattle.optimizer.proofs.order.is_less.Tie as tie
 

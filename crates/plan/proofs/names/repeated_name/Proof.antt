@@ -1,15 +1,14 @@
 use mathlib.Core.Path.{_≡_, sym, _∙_}
 use mathlib.Core.Bool.{true, false}
 use mathlib.Core.List.{List}
-use Prim.Native.Nat.{ℕ, suc, _+_, _-_}
+use Prim.Native.Nat.{ℕ, _-_}
 use borrow.Author.Needs.{needs}
 use native.Mathlib.Omega.{arith}
-use borrow.Author.Tests.{le-leb}
 use Rattle.plan.specs.Faults.{firstFrom}
 use Rattle.plan.specs.Layout.{taskCount}
 use Rattle.plan.specs.Names.{namedEarlier}
 use Rattle.plan.specs.Files.{repeatFault, sameNameFault}
-use Rattle.plan.proofs.Rules.{run-if, run-next, run-end}
+use Rattle.plan.proofs.Rules.{run-task, run-next, run-end}
 use Rattle.plan.proofs.names.repeated_name.Statement.{statement}
 use Rattle.plan.proofs.names.repeated_name.Tie as tie
 
@@ -35,8 +34,7 @@ returns : tie.Need-returns Inv-loop μ-loop
 returns c =
     let s : List ℕ = c .before .before .before .before .before .args .file .now in let i : ℕ = c .before .before .before .loop .i in
     let e : namedEarlier s i i ≡ true = sym (c .before .named-earlier .ensures) ∙ c .if1 .taken in
-    let a : suc i ≡ i + 1 = omega arith in
-    rw (le-leb 1 (i + 1) (omega arith)) (c .before .before .before .loop .inv ∙ run-if (repeatFault s) (taskCount s) i 10 (i + 1) (omega arith) (rw (e, a)))
+    c .before .before .before .loop .inv ∙ run-task (repeatFault s) (taskCount s) i 10 (omega arith) (rw e)
 
 add-i : tie.Need-add-i Inv-loop μ-loop
 add-i c = search needs

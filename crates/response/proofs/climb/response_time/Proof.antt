@@ -13,20 +13,20 @@ Inv-loop wcet deadline-cap periods i deadline t₀ t = Climbs (timing wcet deadl
 abbrev μ-loop : tie.MeasureT-loop
 μ-loop wcet deadline-cap periods i deadline t₀ t = suc deadline - t
 
-mul-lesser : tie.Need-mul-lesser Inv-loop μ-loop
-mul-lesser c = search needs
+mul-deadline-of : tie.Need-mul-deadline-of Inv-loop μ-loop
+mul-deadline-of c = search needs
 
-shared-slice-read-lesser : tie.Need-shared-slice-read-lesser Inv-loop μ-loop
-shared-slice-read-lesser c = search needs
+shared-slice-read-deadline-of : tie.Need-shared-slice-read-deadline-of Inv-loop μ-loop
+shared-slice-read-deadline-of c = search needs
 
-mul-lesser-2 : tie.Need-mul-lesser-2 Inv-loop μ-loop
-mul-lesser-2 c = search needs
+mul-deadline-of-2 : tie.Need-mul-deadline-of-2 Inv-loop μ-loop
+mul-deadline-of-2 c = search needs
 
-shared-slice-read-lesser-2 : tie.Need-shared-slice-read-lesser-2 Inv-loop μ-loop
-shared-slice-read-lesser-2 c = search needs
+shared-slice-read-deadline-of-2 : tie.Need-shared-slice-read-deadline-of-2 Inv-loop μ-loop
+shared-slice-read-deadline-of-2 c = search needs
 
-lesser-requires : tie.Need-lesser-requires Inv-loop μ-loop
-lesser-requires c κs = search needs
+deadline-of-requires : tie.Need-deadline-of-requires Inv-loop μ-loop
+deadline-of-requires c κs = search needs
 
 mul-t : tie.Need-mul-t Inv-loop μ-loop
 mul-t c = search needs
@@ -79,11 +79,11 @@ response-time-spec =
     (tie.spec
     Inv-loop
     μ-loop
-    mul-lesser
-    shared-slice-read-lesser
-    mul-lesser-2
-    shared-slice-read-lesser-2
-    lesser-requires
+    mul-deadline-of
+    shared-slice-read-deadline-of
+    mul-deadline-of-2
+    shared-slice-read-deadline-of-2
+    deadline-of-requires
     mul-t
     shared-slice-read-t
     returns

@@ -6,8 +6,8 @@ use borrow.Author.Needs.{needs}
 use native.Mathlib.Omega.{arith}
 use borrow.Author.Tests.{not-true, not-false}
 use lib.ListN.{length}
+use Rattle.plan.proofs.Tests.{eq-or-ne}
 use Rattle.response.specs.Analysis.{timing, meets}
-use Rattle.response.proofs.Tests.{eq-or-ne}
 use Rattle.response.proofs.Sustainable.{all-schedulable, schedulable-none}
 use Rattle.response.proofs.schedulability.is_schedulable.Statement.{statement}
 use Rattle.response.proofs.schedulability.is_schedulable.Tie as tie

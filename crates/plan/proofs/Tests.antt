@@ -24,10 +24,6 @@ pub not-false : {t : Bool} → (t ≡ true → ⊥) → t ≡ false
 not-false {t = true} h = absurd (h refl)
 not-false {t = false} h = refl
 
-pub not-true : {t : Bool} → (t ≡ false → ⊥) → t ≡ true
-not-true {t = true} h = refl
-not-true {t = false} h = absurd (h refl)
-
 pub and-left : (a b : Bool) → (a && b) ≡ true → a ≡ true
 and-left true b e = refl
 and-left false b e = e
