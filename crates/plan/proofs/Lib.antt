@@ -2,6 +2,7 @@
 pub mod Tests
 pub mod Rules
 pub mod Fields
+mod Gaps
 mod Columns
 mod Decoding
 pub mod Loading

@@ -15,7 +15,7 @@ use Rattle.plan.specs.Faults.{fault, none, faultIf, passed, orElse, firs
 use Rattle.plan.specs.Tasks.{between, withinLimits}
 use Rattle.plan.specs.Layout.{version, taskCount, totalLength, rowsAt, rowsEnd, namesAt, namesEnd, outside, overlap}
 use Rattle.plan.specs.Names.{nameField, nameOk, namedEarlier}
-use Rattle.plan.specs.Files.{lengthFault, versionFault, countFault, totalFault, rowsFault, namesFault, overlapFault, layoutFault, isStray, strayFault, gapFault, taskOf, rowFault, taskFault, tasksFault, repeatFault, sameNameFault, fileFault}
+use Rattle.plan.specs.Files.{lengthFault, versionFault, countFault, totalFault, rowsFault, namesFault, overlapFault, headerFault, areasFault, layoutFault, isStray, strayFault, gapFault, taskOf, rowFault, taskFault, tasksFault, repeatFault, sameNameFault, fileFault}
 use Rattle.plan.specs.Inner.{areasOf, laidOut, layoutNumber, layoutPlace, AreasOf, Refuses, Decodes}
 use Rattle.plan.specs.Promises.{Loads}
 use Rattle.plan.proofs.Tests.{bool, and-left, and-right}
@@ -39,20 +39,37 @@ inside total start end n p e =
     let b = if-passed (outside total start end) n p e in
     (ltb-false start 16 (or-left (ltb start 16) (ltb total end) b), ltb-false total end (or-right (ltb start 16) (ltb total end) b))
 
+-- a header that passed rules 1 to 4
+pub record Header (s : List ℕ) : Type 0 where
+  pub long : 16 ≤ length s
+  pub short : length s ≤ 2048
+  pub some : 1 ≤ taskCount s
+  pub few : taskCount s ≤ 16
+
 module _ (s : List ℕ) where
+  pub header : headerFault s .number ≡ 0 → Header s
+  header e =
+      let e2 = or-second (lengthFault s) (firstFault (versionFault s ∷ countFault s ∷ totalFault s ∷ [])) e in
+      let e3 = or-second (versionFault s) (firstFault (countFault s ∷ totalFault s ∷ [])) e2 in
+      let size = in-range 16 (length s) 2048 0 0 (or-first (lengthFault s) (firstFault (versionFault s ∷ countFault s ∷ totalFault s ∷ [])) e) in
+      let count = in-range 1 (taskCount s) 16 2 0 (or-first (countFault s) (firstFault (totalFault s ∷ [])) e3) in
+      record { long = size .0; short = size .1; some = count .0; few = count .1 }
+
+  pub after-header : headerFault s .number ≡ 0 → layoutFault s ≡ areasFault s
+  after-header e = or-next (headerFault s) (areasFault s) e
+
+  pub in-header : (n p : ℕ) → headerFault s ≡ fault n p → (n ≡ 0 → ⊥) → layoutFault s ≡ fault n p
+  in-header n p e h = or-here (headerFault s) (areasFault s) (λ z. h (sym (ap (λ f. f .number) e) ∙ z)) ∙ e
+
   -- rules 1 to 6 passed
   pub areas-of : layoutFault s .number ≡ 0 → AreasOf s (areasOf s)
   areas-of e =
-      let e2 = or-second (lengthFault s) (firstFault (versionFault s ∷ countFault s ∷ totalFault s ∷ rowsFault s ∷ namesFault s ∷ overlapFault s ∷ [])) e in
-      let e3 = or-second (versionFault s) (firstFault (countFault s ∷ totalFault s ∷ rowsFault s ∷ namesFault s ∷ overlapFault s ∷ [])) e2 in
-      let e4 = or-second (countFault s) (firstFault (totalFault s ∷ rowsFault s ∷ namesFault s ∷ overlapFault s ∷ [])) e3 in
-      let e5 = or-second (totalFault s) (firstFault (rowsFault s ∷ namesFault s ∷ overlapFault s ∷ [])) e4 in
-      let e6 = or-second (rowsFault s) (firstFault (namesFault s ∷ overlapFault s ∷ [])) e5 in
-      let size = in-range 16 (length s) 2048 0 0 (or-first (lengthFault s) (firstFault (versionFault s ∷ countFault s ∷ totalFault s ∷ rowsFault s ∷ namesFault s ∷ overlapFault s ∷ [])) e) in
-      let count = in-range 1 (taskCount s) 16 2 0 (or-first (countFault s) (firstFault (totalFault s ∷ rowsFault s ∷ namesFault s ∷ overlapFault s ∷ [])) e3) in
-      let rows = inside (length s) (rowsAt s) (rowsEnd s) 4 1 (or-first (rowsFault s) (firstFault (namesFault s ∷ overlapFault s ∷ [])) e5) in
-      let names = inside (length s) (namesAt s) (namesEnd s) 4 2 (or-first (namesFault s) (firstFault (overlapFault s ∷ [])) e6) in
-      record { tasks = refl; rows = refl; names = refl; some = count .0; few = count .1; short = size .1; rows-from = rows .0; rows-to = rows .1; names-from = names .0; names-to = names .1 }
+      let h = header (or-first (headerFault s) (areasFault s) e) in
+      let a = or-second (headerFault s) (areasFault s) e in
+      let b = or-second (rowsFault s) (firstFault (namesFault s ∷ overlapFault s ∷ [])) a in
+      let rows = inside (length s) (rowsAt s) (rowsEnd s) 4 1 (or-first (rowsFault s) (firstFault (namesFault s ∷ overlapFault s ∷ [])) a) in
+      let names = inside (length s) (namesAt s) (namesEnd s) 4 2 (or-first (namesFault s) (firstFault (overlapFault s ∷ [])) b) in
+      record { tasks = refl; rows = refl; rows-end = refl; names = refl; names-end = refl; some = h .some; few = h .few; short = h .short; rows-from = rows .0; rows-to = rows .1; names-from = names .0; names-to = names .1 }
 
   pub located : (a : Areas) → Located a ≡ laidOut s → AreasOf s a × (layoutFault s .number ≡ 0)
   located a e = elim (bool (passed (layoutFault s))) [
@@ -102,13 +119,14 @@ small b n p h = if-le b n p 11 h
 
 layout-small : (s : List ℕ) → layoutFault s .number ≤ 11
 layout-small s =
-    or-le (lengthFault s) _ 11 (small (not (between 16 (length s) 2048)) 1 0 (omega arith))
+    or-le (headerFault s) (areasFault s) 11
+    (or-le (lengthFault s) _ 11 (small (not (between 16 (length s) 2048)) 1 0 (omega arith))
     (or-le (versionFault s) _ 11 (small (not (eqb (version s) 1)) 2 0 (omega arith))
     (or-le (countFault s) _ 11 (small (not (between 1 (taskCount s) 16)) 3 0 (omega arith))
-    (or-le (totalFault s) _ 11 (small (not (eqb (totalLength s) (length s))) 4 0 (omega arith))
+    (or-le (totalFault s) none 11 (small (not (eqb (totalLength s) (length s))) 4 0 (omega arith)) (omega arith)))))
     (or-le (rowsFault s) _ 11 (small (outside (length s) (rowsAt s) (rowsEnd s)) 5 1 (omega arith))
     (or-le (namesFault s) _ 11 (small (outside (length s) (namesAt s) (namesEnd s)) 5 2 (omega arith))
-    (or-le (overlapFault s) none 11 (small (overlap (rowsAt s) (rowsEnd s) (namesAt s) (namesEnd s)) 6 0 (omega arith)) (omega arith)))))))
+    (or-le (overlapFault s) none 11 (small (overlap (rowsAt s) (rowsEnd s) (namesAt s) (namesEnd s)) 6 0 (omega arith)) (omega arith))))
 
 task-small : (s : List ℕ) (i : ℕ) → taskFault s i .number ≤ 11
 task-small s i =

@@ -52,6 +52,13 @@ module _ (f : ℕ → Fault) (n i : ℕ) where
   unfolding firstFrom
   run-end h = let e : n - i ≡ 0 = omega arith in rw e
 
+-- rules that pass are passed over, k at once
+pub run-skip : (f : ℕ → Fault) (n i k : ℕ) → i + k ≤ n → ((j : ℕ) → i ≤ j → j < i + k → f j .number ≡ 0) → firstFrom f (n - i) i ≡ firstFrom f (n - (i + k)) (i + k)
+run-skip f n i zero h p = let e : i + 0 ≡ i = omega arith in rw e
+run-skip f n i (suc k) h p =
+    let e : i + 1 + k ≡ i + suc k = omega arith in
+    run-next f n i (omega arith) (p i (omega arith) (omega arith)) ∙ rw e at (run-skip f n (i + 1) k (omega arith) (λ j l m. p j (omega arith) (omega arith)))
+
 -- a run without a fault: each of its rules passed
 pub run-passed : (f : ℕ → Fault) (left i : ℕ) → firstFrom f left i .number ≡ 0 → (k : ℕ) → i ≤ k → k < i + left → f k .number ≡ 0
 unfolding firstFrom

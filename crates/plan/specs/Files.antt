@@ -67,18 +67,15 @@ repeatFault s i = faultIf (namedEarlier s i i) 11 (suc i)
 abbrev pub sameNameFault : List ℕ → Fault
 sameNameFault s = firstFrom (repeatFault s) (taskCount s) 0
 
--- "in this order": the layout's rules, the gaps, the tasks one by one, their names
+-- "in this order": the header's rules, the areas', the gaps, the tasks one by one, their names
+abbrev pub headerFault : List ℕ → Fault
+headerFault s = firstFault (lengthFault s ∷ versionFault s ∷ countFault s ∷ totalFault s ∷ [])
+
+abbrev pub areasFault : List ℕ → Fault
+areasFault s = firstFault (rowsFault s ∷ namesFault s ∷ overlapFault s ∷ [])
+
 abbrev pub layoutFault : List ℕ → Fault
-layoutFault s =
-    firstFault
-    (lengthFault s
-    ∷ versionFault s
-    ∷ countFault s
-    ∷ totalFault s
-    ∷ rowsFault s
-    ∷ namesFault s
-    ∷ overlapFault s
-    ∷ [])
+layoutFault s = orElse (headerFault s) (areasFault s)
 
 unfoldable pub fileFault : List ℕ → Fault
 fileFault s = firstFault (layoutFault s ∷ gapFault s ∷ tasksFault s ∷ sameNameFault s ∷ [])

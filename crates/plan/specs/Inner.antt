@@ -14,7 +14,7 @@ use Rattle.plan.specs.declared.layout.Layout.{Layout}
 use Rattle.plan.specs.declared.layout.Layout.the-variants.{Located, Broken}
 use Rattle.plan.specs.Faults.{passed}
 use Rattle.plan.specs.Tasks.{withinLimits, maxTasks, maxFile}
-use Rattle.plan.specs.Layout.{headerWidth, taskCount, rowsAt, rowsEnd, namesAt, namesEnd}
+use Rattle.plan.specs.Layout.{headerWidth, taskCount, rowsAt, rowsEnd, namesAt, namesEnd, inArea}
 use Rattle.plan.specs.Names.{isNameByte}
 use Rattle.plan.specs.Files.{layoutFault, tasksFault, tasksOf}
 use Rattle.plan.specs.Promises.{Holds}
@@ -29,7 +29,7 @@ numberOf (Refused n) = n
 
 -- the header's answer, and the number and place of each of its cases
 abbrev pub areasOf : List ℕ → Areas
-areasOf s = record { tasks = taskCount s; rows = rowsAt s; names = namesAt s }
+areasOf s = record { tasks = taskCount s; rows = rowsAt s; «rows_end» = rowsEnd s; names = namesAt s; «names_end» = namesEnd s }
 
 abbrev pub laidOut : List ℕ → Layout
 laidOut s = cond (passed (layoutFault s)) (Located (areasOf s)) (Broken (layoutFault s .number) (layoutFault s .place))
@@ -46,7 +46,9 @@ layoutPlace (Broken n p) = p
 pub record AreasOf (s : List ℕ) (a : Areas) : Type 0 where
   pub tasks : a .tasks ≡ taskCount s
   pub rows : a .rows ≡ rowsAt s
+  pub rows-end : a .«rows_end» ≡ rowsEnd s
   pub names : a .names ≡ namesAt s
+  pub names-end : a .«names_end» ≡ namesEnd s
   pub some : 1 ≤ taskCount s
   pub few : taskCount s ≤ maxTasks
   pub short : length s ≤ maxFile
@@ -54,6 +56,10 @@ pub record AreasOf (s : List ℕ) (a : Areas) : Type 0 where
   pub rows-to : rowsEnd s ≤ length s
   pub names-from : headerWidth ≤ namesAt s
   pub names-to : namesEnd s ≤ length s
+
+-- the end of the area that holds a byte, or its own offset
+abbrev pub areaEnd : Areas → ℕ → ℕ
+areaEnd a at = cond (inArea (a .rows) (a .«rows_end») at) (a .«rows_end») (cond (inArea (a .names) (a .«names_end») at) (a .«names_end») at)
 
 -- how many name bytes a field begins with
 abbrev pub nameLength : List ℕ → ℕ
