@@ -47,8 +47,10 @@ loop-less c = search needs
 
 loop-again : tie.Need-loop-again Inv-loop μ-loop
 loop-again c =
-    let a = c .before .before .before .before .before .before .before .before .before .args in
-    let l = c .before .before .before .before .before .before .loop in
+    let at-loop = c .before .before .before .before .before .before in
+    let start = at-loop .before .before .before in
+    let a = start .args in
+    let l = at-loop .loop in
     (omega arith, (omega arith, word-next (l .block) (c .before .before .put .last .0) (a .numbers .now) (a .at) (l .i) (omega arith) (c .before .before .put .ensures) ∙ l .inv .1 .1))
 
 same-length : tie.Need-same-length Inv-loop μ-loop

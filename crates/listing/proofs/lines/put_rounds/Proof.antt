@@ -20,8 +20,10 @@ same-length c = search needs
 
 returns : tie.Need-returns
 returns c =
-    let a = c .before .before .before .before .before .before .before .before .before .before .before .args in
-    then-fields (a .label .now ∷ decimal (a .n) ∷ []) roundsWord (decimal (a .rounds) ∷ []) 10 _ (omega arith) (c .before .before .before .before .before .before .before .put-labelled .ensures) (c .before .before .put-labelled2 .ensures)
+    let after-put-labelled = c .before .before .before .before .before .before .before in
+    let start = after-put-labelled .before .before .before .before in
+    let a = start .args in
+    then-fields (a .label .now ∷ decimal (a .n) ∷ []) roundsWord (decimal (a .rounds) ∷ []) 10 _ (omega arith) (after-put-labelled .put-labelled .ensures) (c .before .before .put-labelled2 .ensures)
 
 pub put-rounds-spec : {M : Type 1} → statement M
 put-rounds-spec =

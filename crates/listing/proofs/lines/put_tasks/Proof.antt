@@ -37,7 +37,11 @@ shared-slice-read-put-task-2 : tie.Need-shared-slice-read-put-task-2 Inv-loop μ
 shared-slice-read-put-task-2 c = search needs
 
 put-task-requires : tie.Need-put-task-requires Inv-loop μ-loop
-put-task-requires c κs = omega (arith, name-le (c .before .before .before .task-name .ensures), c .before .before .before .before .before .loop .inv, c .before .before .before .before .before .before .before .before .before .before .pre)
+put-task-requires c κs =
+    let after-task-name = c .before .before .before in
+    let at-loop = after-task-name .before .before in
+    let start = at-loop .before .before .before .before .before in
+    omega (arith, name-le (after-task-name .task-name .ensures), at-loop .loop .inv, start .pre)
 
 add-i : tie.Need-add-i Inv-loop μ-loop
 add-i c = search needs
@@ -46,7 +50,11 @@ loop-less : tie.Need-loop-less Inv-loop μ-loop
 loop-less c = search needs
 
 loop-again : tie.Need-loop-again Inv-loop μ-loop
-loop-again c = listed-more (c .before .before .before .before .before .before .before .before .loop .inv) (c .before .before .before .before .before .before .before .loop-test .taken) (c .before .before .before .before .before .before .task-name .ensures) (c .before .before .put-task .ensures) (c .before .before .put-task .kept .0)
+loop-again c =
+    let after-task-name = c .before .before .before .before .before .before in
+    let in-loop = after-task-name .before in
+    let at-loop = in-loop .before in
+    listed-more (at-loop .loop .inv) (in-loop .loop-test .taken) (after-task-name .task-name .ensures) (c .before .before .put-task .ensures) (c .before .before .put-task .kept .0)
 
 same-length : tie.Need-same-length Inv-loop μ-loop
 same-length c = search needs

@@ -21,7 +21,12 @@ put-rounds-requires : tie.Need-put-rounds-requires
 put-rounds-requires c κs = search needs
 
 put-tasks-requires : tie.Need-put-tasks-requires
-put-tasks-requires c κs = omega (arith, c .before .before .before .before .before .put-rounds .ensures, c .before .before .before .before .before .put-rounds .kept, c .before .before .before .before .before .before .before .before .before .before .response-times .kept, c .before .before .before .before .before .before .before .before .before .before .before .before .before .before .before .before .before .before .before .cheapest-periods .kept, c .before .before .before .before .before .before .before .before .before .before .before .before .before .before .before .before .before .before .before .before .before .before .before .before .before .before .before .pre, read-few (c .before .before .before .before .before .before .before .before .before .before .before .before .before .before .before .before .before .before .before .before .before .before .before .before .before .before .before .args .file .now))
+put-tasks-requires c κs =
+    let after-put-rounds = c .before .before .before .before .before in
+    let after-response-times = after-put-rounds .before .before .before .before .before in
+    let after-cheapest-periods = after-response-times .before .before .before .before .before .before .before .before .before in
+    let start = after-cheapest-periods .before .before .before .before .before .before .before .before in
+    omega (arith, after-put-rounds .put-rounds .ensures, after-put-rounds .put-rounds .kept, after-response-times .response-times .kept, after-cheapest-periods .cheapest-periods .kept, start .pre, read-few (start .args .file .now))
 
 same-length : tie.Need-same-length
 same-length c = search needs
@@ -37,11 +42,16 @@ same-length-4 c = search needs
 
 returns : tie.Need-returns
 returns c =
-    let p = c .before .before .before .before .before .before .before .before .before .before .before .before .before .before .before .before .before .before .before .before .before .before .cheapest-periods .ensures in
-    let g = c .before .before .before .before .before .before .before .before .before .before .before .before .before .before .before .before .before .before .before .before .before .before .before .before .before .before .before .before .before .before .pre in
-    let z = c .before .before .before .before .before .before .before .before .before .before .before .before .before .before .before .before .if1 .taken in
-    let q = then (c .before .before .before .before .before .before .before .before .put-rounds .ensures) (c .before .before .put-tasks .ensures) in
-    lists p (g .0) (answer-text p (g .0) z) (rw (answered-times p (g .0) z (g .1 .0) (c .before .before .before .before .before .before .before .before .before .before .before .before .before .response-times .ensures)) at q) (omega (arith, c .before .before .before .before .before .before .before .before .before .before .before .before .before .before .before .before .before .before .before .before .before .before .cheapest-periods .kept, read-few (c .before .before .before .before .before .before .before .before .before .before .before .before .before .before .before .before .before .before .before .before .before .before .before .before .before .before .before .before .before .before .args .file .now))) (g .1 .1)
+    let after-put-rounds = c .before .before .before .before .before .before .before .before in
+    let after-response-times = after-put-rounds .before .before .before .before .before in
+    let then1 = after-response-times .before .before .before in
+    let after-cheapest-periods = then1 .before .before .before .before .before .before in
+    let start = after-cheapest-periods .before .before .before .before .before .before .before .before in
+    let p = after-cheapest-periods .cheapest-periods .ensures in
+    let g = start .pre in
+    let z = then1 .if1 .taken in
+    let q = then (after-put-rounds .put-rounds .ensures) (c .before .before .put-tasks .ensures) in
+    lists p (g .0) (answer-text p (g .0) z) (rw (answered-times p (g .0) z (g .1 .0) (after-response-times .response-times .ensures)) at q) (omega (arith, after-cheapest-periods .cheapest-periods .kept, read-few (start .args .file .now))) (g .1 .1)
 
 put-refusal-requires : tie.Need-put-refusal-requires
 put-refusal-requires c κs = search needs
@@ -57,9 +67,13 @@ same-length-7 c = search needs
 
 returns-2 : tie.Need-returns-2
 returns-2 c =
-    let p = c .before .before .before .before .before .before .before .before .before .before .before .before .cheapest-periods .ensures in
-    let g = c .before .before .before .before .before .before .before .before .before .before .before .before .before .before .before .before .before .before .before .before .pre in
-    lists p (g .0) (refusal-text p (g .0) (c .before .before .before .before .before .before .if1 .left) (c .before .before .before .before .if2 .taken)) (c .before .before .put-refusal .ensures) (omega arith) (g .1 .1)
+    let then2 = c .before .before .before .before in
+    let else1 = then2 .before .before in
+    let after-cheapest-periods = else1 .before .before .before .before .before .before in
+    let start = after-cheapest-periods .before .before .before .before .before .before .before .before in
+    let p = after-cheapest-periods .cheapest-periods .ensures in
+    let g = start .pre in
+    lists p (g .0) (refusal-text p (g .0) (else1 .if1 .left) (then2 .if2 .taken)) (c .before .before .put-refusal .ensures) (omega arith) (g .1 .1)
 
 put-refusal-requires-2 : tie.Need-put-refusal-requires-2
 put-refusal-requires-2 c κs = search needs
@@ -81,11 +95,15 @@ same-length-10 c = search needs
 
 returns-3 : tie.Need-returns-3
 returns-3 c =
-    let p = c .before .before .before .before .before .before .before .before .before .before .before .before .before .before .before .before .before .cheapest-periods .ensures in
-    let g = c .before .before .before .before .before .before .before .before .before .before .before .before .before .before .before .before .before .before .before .before .before .before .before .before .before .pre in
-    let r = c .before .before .before .before .before .before .before .before .before .before .before .before .before .before .before .before .before .cheapest-periods .result in
-    let q = then-fields (refusedWord ∷ decimal (r .number) ∷ decimal (r .place) ∷ []) boundWord (decimal (r .bound) ∷ roundsWord ∷ decimal (r .rounds) ∷ []) 10 1024 (omega arith) (c .before .before .before .before .before .before .before .put-refusal2 .ensures) (c .before .before .put-rounds2 .ensures) in
-    lists p (g .0) (stop-text p (g .0) (c .before .before .before .before .before .before .before .before .before .if2 .left)) q (omega arith) (g .1 .1)
+    let after-put-refusal2 = c .before .before .before .before .before .before .before in
+    let else2 = after-put-refusal2 .before .before in
+    let after-cheapest-periods = else2 .before .before .before .before .before .before .before .before in
+    let start = after-cheapest-periods .before .before .before .before .before .before .before .before in
+    let p = after-cheapest-periods .cheapest-periods .ensures in
+    let g = start .pre in
+    let r = after-cheapest-periods .cheapest-periods .result in
+    let q = then-fields (refusedWord ∷ decimal (r .number) ∷ decimal (r .place) ∷ []) boundWord (decimal (r .bound) ∷ roundsWord ∷ decimal (r .rounds) ∷ []) 10 1024 (omega arith) (after-put-refusal2 .put-refusal2 .ensures) (c .before .before .put-rounds2 .ensures) in
+    lists p (g .0) (stop-text p (g .0) (else2 .if2 .left)) q (omega arith) (g .1 .1)
 
 pub list-with-spec : {M : Type 1} → statement M
 list-with-spec =

@@ -12,7 +12,9 @@ use Rattle.optimizer.proofs.cheapest.conclude.Tie as tie
 
 -- where the call began, from where rule 31 was tested
 abbrev start : tie.After-infeasible-alone → tie.Start
-start c = c .before .before .before .before .before .before .before .before
+start c =
+    let start = c .before .before .before .before .before .before .before .before in
+    start
 
 infeasible-alone-requires : tie.Need-infeasible-alone-requires
 infeasible-alone-requires c κs =

@@ -36,13 +36,18 @@ slice-write-u c = search needs
 
 response-time-requires : tie.Need-response-time-requires Inv-loop μ-loop
 response-time-requires c κs =
-    let p = c .before .before .before .before .before .before .before .pre in
-    (probing-limits (p .0) (p .1) (c .before .before .before .loop .inv) (c .before .probe .ensures), columns-inside (p .0 .columns) (p .1 .1))
+    let at-loop = c .before .before .before in
+    let start = at-loop .before .before .before .before in
+    let p = start .pre in
+    (probing-limits (p .0) (p .1) (at-loop .loop .inv) (c .before .probe .ensures), columns-inside (p .0 .columns) (p .1 .1))
 
 responds : (c : tie.Else1 Inv-loop μ-loop) → c .before .response-time .result ≤ maxTicks
 responds c =
-    let p = c .before .before .before .before .before .before .before .before .before .pre in
-    probing-response (p .0) (p .1) (c .before .before .before .before .before .loop .inv) (c .before .before .before .probe .ensures) (c .before .response-time .ensures)
+    let after-probe = c .before .before .before in
+    let at-loop = after-probe .before .before in
+    let start = at-loop .before .before .before .before in
+    let p = start .pre in
+    probing-response (p .0) (p .1) (at-loop .loop .inv) (after-probe .probe .ensures) (c .before .response-time .ensures)
 
 rounded-up-requires : tie.Need-rounded-up-requires Inv-loop μ-loop
 rounded-up-requires c κs =
@@ -64,9 +69,12 @@ loop-less c = omega (arith, c .before .before .before .before .before .loop .inv
 
 loop-again : tie.Need-loop-again Inv-loop μ-loop
 loop-again c =
-    let q = c .before .before .before .before .before .before .before .before .before .pre in
-    let g = c .before .before .before .before .before .loop .inv in
-    let p = c .before .before .before .probe in
+    let after-probe = c .before .before .before in
+    let at-loop = after-probe .before .before in
+    let start = at-loop .before .before .before .before in
+    let q = start .pre in
+    let g = at-loop .loop .inv in
+    let p = after-probe .probe in
     let e = c .before .response-time .ensures in
     ⊎-elim
     (λ w. rw (w .1, w .2) (probing-miss (q .0) (q .1) g (p .ensures) e (w .0 .taken)))

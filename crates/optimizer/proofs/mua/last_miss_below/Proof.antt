@@ -29,7 +29,8 @@ loop-holds c =
 
 last-miss-requires : tie.Need-last-miss-requires Inv-loop μ-loop
 last-miss-requires c κs =
-    let p = c .before .before .before .before .before .before .pre in
+    let start = c .before .before .before .before .before .before in
+    let p = start .pre in
     let v = c .before .before .loop .inv .1 in
     let n = v .1 .limits .sized ∙ sym (p .columns .limits .sized) in (
       record { columns = record { limits = v .1 .limits; works = p .columns .works; capped = p .columns .capped }; inside = omega arith; order = v .0 .upto; ticks = p .ticks },
@@ -44,8 +45,10 @@ loop-less c = search needs
 
 loop-again : tie.Need-loop-again Inv-loop μ-loop
 loop-again c =
-    let a = c .before .before .before .before .before .before .before .before .before .args in
-    let l = c .before .before .before .before .before .loop in
+    let at-loop = c .before .before .before .before .before in
+    let start = at-loop .before .before .before .before in
+    let a = start .args in
+    let l = at-loop .loop in
     let e : suc (l .k - 1) ≡ l .k = omega arith in
     let m = c .before .before .last-miss .ensures in
     ((omega arith, omega arith), (rw e (last-miss-join (timing (a .wcet .now) (a .deadline-cap .now)) (a .u .now) (a .i) (l .inv .1 .1) (l .inv .1 .0) (m .0)), moved-on (l .inv .1 .1) (m .1)))

@@ -26,7 +26,9 @@ same-length : tie.Need-same-length
 same-length c = search needs
 
 returns : tie.Need-returns
-returns c = raised-most (c .before .before .before .before .before .before .before .pre .0) (sym (c .if1 .taken) ∙ c .before .response-time .ensures)
+returns c =
+    let start = c .before .before .before .before .before .before .before in
+    raised-most (start .pre .0) (sym (c .if1 .taken) ∙ c .before .response-time .ensures)
 
 sub-greater : tie.Need-sub-greater
 sub-greater c = search needs
@@ -35,7 +37,10 @@ greater-requires : tie.Need-greater-requires
 greater-requires c κs = search needs
 
 last-miss-below-requires : tie.Need-last-miss-below-requires
-last-miss-below-requires c κs = rw (c .greater .ensures) (range-from (c .before .before .before .before .before .before .before .before .before .pre .0) (c .before .before .before .response-time .ensures) (omega arith))
+last-miss-below-requires c κs =
+    let after-response-time = c .before .before .before in
+    let start = after-response-time .before .before .before .before .before .before in
+    rw (c .greater .ensures) (range-from (start .pre .0) (after-response-time .response-time .ensures) (omega arith))
 
 mul-u-2 : tie.Need-mul-u-2
 mul-u-2 c = search needs
@@ -45,18 +50,21 @@ slice-write-u-2 c = search needs
 
 same-length-2 : tie.Need-same-length-2
 same-length-2 c =
+    let start = c .before .before .before .before .before .before .before .before .before .before .before .before in
     simp length-set
     (c .before .before .last-miss-below .ensures .1 .limits .sized
-    ∙ sym (c .before .before .before .before .before .before .before .before .before .before .before .before .pre .0 .columns .limits .sized))
+    ∙ sym (start .pre .0 .columns .limits .sized))
 
 returns-2 : tie.Need-returns-2
 returns-2 c =
-    let s = c .before .before .before .before .before .before .before .before .before .before .before .before in
+    let after-greater = c .before .before .before in
+    let after-response-time = after-greater .before .before .before in
+    let s = after-response-time .before .before .before .before .before .before in
     let a = s .args in
     let l = c .before .before .last-miss-below in
     let e = l .ensures .1 .only (l .result) ∙ set-set (a .u .now) (a .i) (a .most) (l .result) in
     rw e
-    (raised-last (s .pre .0) (c .before .before .before .before .before .before .response-time .ensures) (omega arith) (s .pre .1 .0) (s .pre .1 .1) (rw (c .before .before .before .greater .ensures) at (l .ensures .0)))
+    (raised-last (s .pre .0) (after-response-time .response-time .ensures) (omega arith) (s .pre .1 .0) (s .pre .1 .1) (rw (after-greater .greater .ensures) at (l .ensures .0)))
 
 pub raise-spec : {M : Type 1} → statement M
 raise-spec =

@@ -25,8 +25,9 @@ place-requires c κs =
 
 returns : tie.Need-returns
 returns c =
-    let s = c .before .before .before .before .before .before .before .before .before in
-    nodes-removed (s .args .count) (s .args .n) (s .args .work .now) (s .args .k) (s .pre .listed) (s .pre .fits) (last-read (c .before .before .before .before .before)) (c .before .before .place .ensures)
+    let after-read-node = c .before .before .before .before .before in
+    let s = after-read-node .before .before .before .before in
+    nodes-removed (s .args .count) (s .args .n) (s .args .work .now) (s .args .k) (s .pre .listed) (s .pre .fits) (last-read after-read-node) (c .before .before .place .ensures)
 
 pub remove-spec : {M : Type 1} → statement M
 remove-spec =

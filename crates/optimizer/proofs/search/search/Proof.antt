@@ -53,14 +53,19 @@ misses : (t : tie.Else1 Inv-loop μ-loop) → let m = taken (t .before) in let a
 misses t = sym (t .before .is-schedulable .ensures) ∙ t .if1 .left
 
 div-room : tie.Need-div-room Inv-loop μ-loop
-div-room c = omega (arith, width (c .before .before .before .before .before .before .before .pre .0 .are) .3, c .before .before .before .before .before .before .before .pre .0 .are .some)
+div-room c =
+    let start = c .before .before .before .before .before .before .before in
+    omega (arith, width (start .pre .0 .are) .3, start .pre .0 .are .some)
 
 place-requires : tie.Need-place-requires Inv-loop μ-loop
-place-requires c κs = omega (arith, width (c .before .before .before .before .before .before .before .before .pre .0 .are))
+place-requires c κs =
+    let start = c .before .before .before .before .before .before .before .before in
+    omega (arith, width (start .pre .0 .are))
 
 loop-holds : tie.Need-loop-holds Inv-loop μ-loop
 loop-holds c =
-    let p = c .before .before in let s = c .before .before .before .before .before .before .before .before .before .before .before in let n : ℕ = length (s .args .weights .now) in let g = s .pre .0 .are in
+    let s = c .before .before .before .before .before .before .before .before .before .before .before in
+    let p = c .before .before in let n : ℕ = length (s .args .weights .now) in let g = s .pre .0 .are in
     (refl, (s .pre .0, begins g (s .pre .0 .top) (roomy p) (le-div-iff-mul-le (omega (arith, width g .3, g .some)) .1 (omega (arith, one-mul n))) refl (first-node {n = n} (s .args .work .now) (omega (arith, width g)) (p .place .ensures))))
 
 take-least-requires : tie.Need-take-least-requires Inv-loop μ-loop
@@ -88,7 +93,9 @@ write-node-requires : tie.Need-write-node-requires Inv-loop μ-loop
 write-node-requires c κs = let m = taken (c .before .before .before) in m .take-least .ensures .sized ∙ sym (ap length (head m .loop .inv .0) ∙ start (head m) .pre .1 .0)
 
 array-share-prefix-node-3 : tie.Need-array-share-prefix-node-3 Inv-loop μ-loop
-array-share-prefix-node-3 c = omega (arith, few (head (c .before .before .before .before .before .before .before .before .before .before)))
+array-share-prefix-node-3 c =
+    let after-take-least = c .before .before .before .before .before .before .before .before .before .before in
+    omega (arith, few (head after-take-least))
 
 slice-aggregate-cost-of : tie.Need-slice-aggregate-cost-of Inv-loop μ-loop
 slice-aggregate-cost-of c = sym (taken (c .before .before .before .before .before .before .before) .take-least .ensures .sized)
@@ -97,15 +104,23 @@ cost-of-requires : tie.Need-cost-of-requires Inv-loop μ-loop
 cost-of-requires c κs = let m = taken (c .before .before .before .before .before .before .before) in let l = head m in let g = l .loop .inv .1 .0 .are in let q = l .loop .inv .1 .0 .top in let r = l .loop .inv .1 .1 in node-priced g q (roomy (placed l)) r (m .take-least .ensures)
 
 same-length : tie.Need-same-length Inv-loop μ-loop
-same-length c = c .before .before .before .before .write-node .kept .0 ∙ ap length (head (taken (c .before .before .before .before .before .before .before .before)) .loop .inv .0)
+same-length c =
+    let after-write-node = c .before .before .before .before in
+    let after-is-schedulable = after-write-node .before .before .before .before in
+    after-write-node .write-node .kept .0 ∙ ap length (head (taken after-is-schedulable) .loop .inv .0)
 
 same-length-2 : tie.Need-same-length-2 Inv-loop μ-loop
-same-length-2 c = taken-length (taken (c .before .before .before .before .before .before .before .before))
+same-length-2 c =
+    let after-is-schedulable = c .before .before .before .before .before .before .before .before in
+    taken-length (taken after-is-schedulable)
 
 returns : tie.Need-returns Inv-loop μ-loop
 returns c =
-    let m = taken (c .before .before .before .before .before .before .before .before) in let l = head m in let g = l .loop .inv .1 .0 .are in let q = l .loop .inv .1 .0 .top in let r = l .loop .inv .1 .1 in
-    ends (ends-answer g q (roomy (placed l)) r (m .take-least .ensures) (m .before .before .loop-test .taken) (sym (c .before .before .before .before .before .before .before .before .is-schedulable .ensures) ∙ c .before .before .before .before .before .before .before .if1 .taken)) (c .cost-of .ensures) refl (c .before .before .before .before .write-node .ensures)
+    let after-write-node = c .before .before .before .before in
+    let then1 = after-write-node .before .before .before in
+    let after-is-schedulable = then1 .before in
+    let m = taken after-is-schedulable in let l = head m in let g = l .loop .inv .1 .0 .are in let q = l .loop .inv .1 .0 .top in let r = l .loop .inv .1 .1 in
+    ends (ends-answer g q (roomy (placed l)) r (m .take-least .ensures) (m .before .before .loop-test .taken) (sym (after-is-schedulable .is-schedulable .ensures) ∙ then1 .if1 .taken)) (c .cost-of .ensures) refl (after-write-node .write-node .ensures)
 
 sub-branch : tie.Need-sub-branch Inv-loop μ-loop
 sub-branch c = let m = taken (c .before .before) in let l = head m in let g = l .loop .inv .1 .0 .are in let q = l .loop .inv .1 .0 .top in let r = l .loop .inv .1 .1 in omega (arith, some-open g q (roomy (placed l)) r)
@@ -144,12 +159,16 @@ same-length-3 : tie.Need-same-length-3 Inv-loop μ-loop
 same-length-3 c = ap length (head (taken (tested (c .before .before .before .before .before .before .before) .before)) .loop .inv .0)
 
 same-length-4 : tie.Need-same-length-4 Inv-loop μ-loop
-same-length-4 c = c .before .before .before .before .before .before .before .branch .kept .1 .1 .1 .0 ∙ taken-length (taken (tested (c .before .before .before .before .before .before .before) .before))
+same-length-4 c =
+    let after-branch = c .before .before .before .before .before .before .before in
+    after-branch .branch .kept .1 .1 .1 .0 ∙ taken-length (taken (tested after-branch .before))
 
 returns-2 : tie.Need-returns-2 Inv-loop μ-loop
 returns-2 c =
-    let b = c .before .before .before .before .before .before .before in let t = tested b in let m = taken (t .before) in let l = head m in let g = l .loop .inv .1 .0 .are in let q = l .loop .inv .1 .0 .top in let r = l .loop .inv .1 .1 in
-    rw (c .stopped .ensures) (ends (ends-full g q (roomy (placed l)) r (m .take-least .ensures) (m .before .before .loop-test .taken) (misses t) (m .take-least .kept .0) (b .branch .ensures) (c .before .before .before .enum-told .given .1)) refl (c .before .cost-of2 .ensures) (l .loop .inv .0))
+    let after-enum-told = c .before .before .before in
+    let b = after-enum-told .before .before .before .before in
+    let t = tested b in let m = taken (t .before) in let l = head m in let g = l .loop .inv .1 .0 .are in let q = l .loop .inv .1 .0 .top in let r = l .loop .inv .1 .1 in
+    rw (c .stopped .ensures) (ends (ends-full g q (roomy (placed l)) r (m .take-least .ensures) (m .before .before .loop-test .taken) (misses t) (m .take-least .kept .0) (b .branch .ensures) (after-enum-told .enum-told .given .1)) refl (c .before .cost-of2 .ensures) (l .loop .inv .0))
 
 loop-less : tie.Need-loop-less Inv-loop μ-loop
 loop-less c = omega arith
@@ -173,8 +192,10 @@ same-length-6 c = work-length (c .before .before .before .before)
 
 returns-3 : tie.Need-returns-3 Inv-loop μ-loop
 returns-3 c =
-    let l = c .before .before .before .before in let g = l .loop .inv .1 .0 .are in let q = l .loop .inv .1 .0 .top in let r = l .loop .inv .1 .1 in
-    rw (c .stopped2 .ensures) (ends (ends-spent g q (roomy (placed l)) r (c .before .before .before .loop-test .left)) refl (c .before .bound-of .ensures) (l .loop .inv .0))
+    let after-loop = c .before .before .before in
+    let l = after-loop .before in
+    let g = l .loop .inv .1 .0 .are in let q = l .loop .inv .1 .0 .top in let r = l .loop .inv .1 .1 in
+    rw (c .stopped2 .ensures) (ends (ends-spent g q (roomy (placed l)) r (after-loop .loop-test .left)) refl (c .before .bound-of .ensures) (l .loop .inv .0))
 
 pub search-spec : {M : Type 1} → statement M
 search-spec = tie.close (tie.spec Inv-loop μ-loop div-room place-requires loop-holds take-least-requires add-rounds array-share-prefix-node slice-aggregate-is-schedulable is-schedulable-requires array-share-prefix-node-2 slice-aggregate-write-node write-node-requires array-share-prefix-node-3 slice-aggregate-cost-of cost-of-requires same-length same-length-2 returns sub-branch array-share-prefix-node-4 slice-aggregate-branch branch-requires enum-known-listing enum-told array-share-prefix-node-5 slice-aggregate-cost-of-2 cost-of-requires-2 stopped-requires same-length-3 same-length-4 returns-2 loop-less loop-again bound-of-requires stopped-requires-2 same-length-5 same-length-6 returns-3)

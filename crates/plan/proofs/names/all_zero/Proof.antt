@@ -29,8 +29,10 @@ shared-slice-read-if1 c = search needs
 
 returns : tie.Need-returns Inv-loop μ-loop
 returns c =
-    let s : List ℕ = c .before .before .before .before .args .file .now in let k : ℕ = c .before .before .before .loop .k in
-    sym (c .before .before .before .loop .inv .1 ∙ rw (field-next s (c .before .before .before .before .args .at) (c .before .before .before .before .args .n) k (omega arith) (omega arith), ne-eqb (getD s (c .before .before .before .before .args .at + k) 0) 0 (c .if1 .taken)))
+    let at-loop = c .before .before .before in
+    let start = at-loop .before in
+    let s : List ℕ = start .args .file .now in let k : ℕ = at-loop .loop .k in
+    sym (at-loop .loop .inv .1 ∙ rw (field-next s (start .args .at) (start .args .n) k (omega arith) (omega arith), ne-eqb (getD s (start .args .at + k) 0) 0 (c .if1 .taken)))
 
 add-k : tie.Need-add-k Inv-loop μ-loop
 add-k c = search needs
@@ -40,8 +42,10 @@ loop-less c = search needs
 
 loop-again : tie.Need-loop-again Inv-loop μ-loop
 loop-again c =
-    let s : List ℕ = c .before .before .before .before .args .file .now in let k : ℕ = c .before .before .before .loop .k in
-    (omega arith, c .before .before .before .loop .inv .1 ∙ rw (field-next s (c .before .before .before .before .args .at) (c .before .before .before .before .args .n) k (omega arith) (omega arith), eq-eqb (getD s (c .before .before .before .before .args .at + k) 0) 0 (c .if1 .left)))
+    let at-loop = c .before .before .before in
+    let start = at-loop .before in
+    let s : List ℕ = start .args .file .now in let k : ℕ = at-loop .loop .k in
+    (omega arith, at-loop .loop .inv .1 ∙ rw (field-next s (start .args .at) (start .args .n) k (omega arith) (omega arith), eq-eqb (getD s (start .args .at + k) 0) 0 (c .if1 .left)))
 
 returns-2 : tie.Need-returns-2 Inv-loop μ-loop
 returns-2 c = sym (c .before .loop .inv .1 ∙ rw (field-end (drop (c .before .before .args .at + c .before .loop .k) (c .before .before .args .file .now)) (c .before .before .args .n) (c .before .loop .k) (omega arith)))

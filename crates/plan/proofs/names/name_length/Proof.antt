@@ -36,10 +36,12 @@ is-name-byte-requires c κs = search needs
 
 returns : tie.Need-returns Inv-loop μ-loop
 returns c =
-    let s : List ℕ = c .before .before .before .before .before .before .before .args .file .now in let at : ℕ = c .before .before .before .before .before .before .before .args .at in let k : ℕ = c .before .before .before .before .before .loop .k in
+    let at-loop = c .before .before .before .before .before in
+    let start = at-loop .before .before in
+    let s : List ℕ = start .args .file .now in let at : ℕ = start .args .at in let k : ℕ = at-loop .loop .k in
     let e : isNameByte (getD s (at + k) 0) ≡ false = ap isNameByte (sym (c .before .before .wide .ensures .0)) ∙ sym (c .before .is-name-byte .ensures) ∙ not-true _ (c .if1 .taken) in
     let z : nameLength (take (16 - k) (drop (at + k) s)) ≡ 0 = rw (field-next s at 16 k (omega arith) (omega arith)) (rw (e, nameLength)) in
-    (omega (arith, c .before .before .before .before .before .loop .inv .1), omega arith)
+    (omega (arith, at-loop .loop .inv .1), omega arith)
 
 add-k : tie.Need-add-k Inv-loop μ-loop
 add-k c = search needs
@@ -49,15 +51,18 @@ loop-less c = search needs
 
 loop-again : tie.Need-loop-again Inv-loop μ-loop
 loop-again c =
-    let s : List ℕ = c .before .before .before .before .before .before .before .args .file .now in let at : ℕ = c .before .before .before .before .before .before .before .args .at in let k : ℕ = c .before .before .before .before .before .loop .k in
+    let at-loop = c .before .before .before .before .before in
+    let start = at-loop .before .before in
+    let s : List ℕ = start .args .file .now in let at : ℕ = start .args .at in let k : ℕ = at-loop .loop .k in
     let e : isNameByte (getD s (at + k) 0) ≡ true = ap isNameByte (sym (c .before .before .wide .ensures .0)) ∙ sym (c .before .is-name-byte .ensures) ∙ not-false _ (c .if1 .left) in
     let z : nameLength (take (16 - k) (drop (at + k) s)) ≡ suc (nameLength (take (16 - (k + 1)) (drop (at + (k + 1)) s))) = rw (field-next s at 16 k (omega arith) (omega arith)) (rw (e, nameLength)) in
-    (omega arith, omega (arith, c .before .before .before .before .before .loop .inv .1))
+    (omega arith, omega (arith, at-loop .loop .inv .1))
 
 returns-2 : tie.Need-returns-2 Inv-loop μ-loop
 returns-2 c =
-    let s : List ℕ = c .before .before .before .args .file .now in let k : ℕ = c .before .loop .k in
-    let z : nameLength (take (16 - k) (drop (c .before .before .before .args .at + k) s)) ≡ 0 = rw (field-end (drop (c .before .before .before .args .at + k) s) 16 k (omega arith)) in
+    let start = c .before .before .before in
+    let s : List ℕ = start .args .file .now in let k : ℕ = c .before .loop .k in
+    let z : nameLength (take (16 - k) (drop (start .args .at + k) s)) ≡ 0 = rw (field-end (drop (start .args .at + k) s) 16 k (omega arith)) in
     (omega (arith, c .before .loop .inv .1), omega arith)
 
 pub name-length-spec : {M : Type 1} → statement M

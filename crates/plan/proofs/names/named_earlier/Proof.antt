@@ -34,7 +34,10 @@ same-field-requires : tie.Need-same-field-requires Inv-loop μ-loop
 same-field-requires c κs = search needs
 
 returns : tie.Need-returns Inv-loop μ-loop
-returns c = sym (earlier-found (c .before .before .before .before .before .args .file .now) (c .before .before .before .before .before .args .i) (c .before .before .before .loop .j) (c .before .before .before .before .before .args .i) (omega arith) (rw (c .before .before .before .before .before .pre .0 .names) at (sym (c .before .same-field .ensures) ∙ c .if1 .taken)))
+returns c =
+    let at-loop = c .before .before .before in
+    let start = at-loop .before .before in
+    sym (earlier-found (start .args .file .now) (start .args .i) (at-loop .loop .j) (start .args .i) (omega arith) (rw (start .pre .0 .names) at (sym (c .before .same-field .ensures) ∙ c .if1 .taken)))
 
 add-j : tie.Need-add-j Inv-loop μ-loop
 add-j c = search needs
@@ -43,7 +46,10 @@ loop-less : tie.Need-loop-less Inv-loop μ-loop
 loop-less c = search needs
 
 loop-again : tie.Need-loop-again Inv-loop μ-loop
-loop-again c = (omega arith, rw (add-one, c .before .before .before .loop .inv .1) (rw (c .before .before .before .before .before .pre .0 .names) at (sym (c .before .same-field .ensures) ∙ c .if1 .left)))
+loop-again c =
+    let at-loop = c .before .before .before in
+    let start = at-loop .before .before in
+    (omega arith, rw (add-one, at-loop .loop .inv .1) (rw (start .pre .0 .names) at (sym (c .before .same-field .ensures) ∙ c .if1 .left)))
 
 returns-2 : tie.Need-returns-2 Inv-loop μ-loop
 returns-2 c = let e : c .before .loop .j ≡ c .before .before .before .args .i = omega arith in sym (rw e at (c .before .loop .inv .1))

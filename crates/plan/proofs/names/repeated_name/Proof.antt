@@ -32,9 +32,11 @@ cast-result c = search needs
 
 returns : tie.Need-returns Inv-loop μ-loop
 returns c =
-    let s : List ℕ = c .before .before .before .before .before .args .file .now in let i : ℕ = c .before .before .before .loop .i in
+    let at-loop = c .before .before .before in
+    let start = at-loop .before .before in
+    let s : List ℕ = start .args .file .now in let i : ℕ = at-loop .loop .i in
     let e : namedEarlier s i i ≡ true = sym (c .before .named-earlier .ensures) ∙ c .if1 .taken in
-    c .before .before .before .loop .inv ∙ run-task (repeatFault s) (taskCount s) i 10 (omega arith) (rw e)
+    at-loop .loop .inv ∙ run-task (repeatFault s) (taskCount s) i 10 (omega arith) (rw e)
 
 add-i : tie.Need-add-i Inv-loop μ-loop
 add-i c = search needs
@@ -44,12 +46,16 @@ loop-less c = search needs
 
 loop-again : tie.Need-loop-again Inv-loop μ-loop
 loop-again c =
-    let s : List ℕ = c .before .before .before .before .before .args .file .now in let i : ℕ = c .before .before .before .loop .i in
+    let at-loop = c .before .before .before in
+    let start = at-loop .before .before in
+    let s : List ℕ = start .args .file .now in let i : ℕ = at-loop .loop .i in
     let e : namedEarlier s i i ≡ false = sym (c .before .named-earlier .ensures) ∙ c .if1 .left in
-    c .before .before .before .loop .inv ∙ run-next (repeatFault s) (taskCount s) i (omega arith) (rw e)
+    at-loop .loop .inv ∙ run-next (repeatFault s) (taskCount s) i (omega arith) (rw e)
 
 returns-2 : tie.Need-returns-2 Inv-loop μ-loop
-returns-2 c = c .before .loop .inv ∙ run-end (repeatFault (c .before .before .before .args .file .now)) (taskCount (c .before .before .before .args .file .now)) (c .before .loop .i) (omega arith)
+returns-2 c =
+    let start = c .before .before .before in
+    c .before .loop .inv ∙ run-end (repeatFault (start .args .file .now)) (taskCount (start .args .file .now)) (c .before .loop .i) (omega arith)
 
 pub repeated-name-spec : {M : Type 1} → statement M
 repeated-name-spec = tie.close (tie.spec Inv-loop μ-loop loop-holds named-earlier-requires add-result cast-result returns add-i loop-less loop-again returns-2)

@@ -35,8 +35,10 @@ shared-slice-read-if1-2 c = search needs
 
 returns : tie.Need-returns Inv-loop μ-loop
 returns c =
-    let s : List ℕ = c .before .before .before .before .before .args .file .now in let a : ℕ = c .before .before .before .before .before .args .a in let b : ℕ = c .before .before .before .before .before .args .b in let k : ℕ = c .before .before .before .before .loop .k in
-    sym (c .before .before .before .before .loop .inv .1 ∙ rw (field-next s a 16 k (omega arith) (omega arith), field-next s b 16 k (omega arith) (omega arith), ne-eqb (getD s (a + k) 0) (getD s (b + k) 0) (c .if1 .taken)))
+    let at-loop = c .before .before .before .before in
+    let start = at-loop .before in
+    let s : List ℕ = start .args .file .now in let a : ℕ = start .args .a in let b : ℕ = start .args .b in let k : ℕ = at-loop .loop .k in
+    sym (at-loop .loop .inv .1 ∙ rw (field-next s a 16 k (omega arith) (omega arith), field-next s b 16 k (omega arith) (omega arith), ne-eqb (getD s (a + k) 0) (getD s (b + k) 0) (c .if1 .taken)))
 
 add-k : tie.Need-add-k Inv-loop μ-loop
 add-k c = search needs
@@ -46,8 +48,10 @@ loop-less c = search needs
 
 loop-again : tie.Need-loop-again Inv-loop μ-loop
 loop-again c =
-    let s : List ℕ = c .before .before .before .before .before .args .file .now in let a : ℕ = c .before .before .before .before .before .args .a in let b : ℕ = c .before .before .before .before .before .args .b in let k : ℕ = c .before .before .before .before .loop .k in
-    (omega arith, c .before .before .before .before .loop .inv .1 ∙ rw (field-next s a 16 k (omega arith) (omega arith), field-next s b 16 k (omega arith) (omega arith), eq-eqb (getD s (a + k) 0) (getD s (b + k) 0) (c .if1 .left)))
+    let at-loop = c .before .before .before .before in
+    let start = at-loop .before in
+    let s : List ℕ = start .args .file .now in let a : ℕ = start .args .a in let b : ℕ = start .args .b in let k : ℕ = at-loop .loop .k in
+    (omega arith, at-loop .loop .inv .1 ∙ rw (field-next s a 16 k (omega arith) (omega arith), field-next s b 16 k (omega arith) (omega arith), eq-eqb (getD s (a + k) 0) (getD s (b + k) 0) (c .if1 .left)))
 
 returns-2 : tie.Need-returns-2 Inv-loop μ-loop
 returns-2 c =

@@ -55,9 +55,12 @@ refused-requires c κs = search needs
 
 returns : tie.Need-returns Inv-loop μ-loop
 returns c =
-    let s : List ℕ = c .before .before .before .before .before .before .before .before .before .args .file .now in let g = c .before .before .enum-told .given in
-    let e = rw (c .before .before .before .before .before .before .before .before .before .pre .rows) at (c .before .before .before .before .row-at .ensures) in
-    row-broken s (c .before .before .before .before .before .before .loop .i) (c .refused .result) (c .before .before .before .before .before .before .loop .inv .1 .0) (c .before .number-of .result) (omega arith) (ap Refused (c .before .number-of .ensures ∙ ap numberOf (g .1)) ∙ sym (g .1) ∙ e) (c .refused .ensures)
+    let after-row-at = c .before .before .before .before in
+    let at-loop = after-row-at .before .before in
+    let start = at-loop .before .before .before in
+    let s : List ℕ = start .args .file .now in let g = c .before .before .enum-told .given in
+    let e = rw (start .pre .rows) at (after-row-at .row-at .ensures) in
+    row-broken s (at-loop .loop .i) (c .refused .result) (at-loop .loop .inv .1 .0) (c .before .number-of .result) (omega arith) (ap Refused (c .before .number-of .ensures ∙ ap numberOf (g .1)) ∙ sym (g .1) ∙ e) (c .refused .ensures)
 
 mul-name-ok : tie.Need-mul-name-ok Inv-loop μ-loop
 mul-name-ok c = search needs
@@ -79,12 +82,19 @@ refused-requires-2 c κs = search needs
 
 returns-2 : tie.Need-returns-2 Inv-loop μ-loop
 returns-2 c =
-    let s : List ℕ = c .before .before .before .before .before .before .before .before .before .before .before .args .file .now in let g = c .before .before .before .before .row .given in
-    let e = rw (c .before .before .before .before .before .before .before .before .before .before .before .pre .rows) at (c .before .before .before .before .before .before .row-at .ensures) in
-    name-broken s (c .before .before .before .before .before .before .before .before .loop .i) (c .refused2 .result) (c .before .before .before .before .before .before .before .before .loop .inv .1 .0) (g .0 .0) (omega arith) (sym (g .1) ∙ e) (rw (c .before .before .before .before .before .before .before .before .before .before .before .pre .names) at (sym (c .before .before .name-ok .ensures) ∙ not-true _ (c .before .if1 .taken))) (c .refused2 .ensures)
+    let after-row = c .before .before .before .before in
+    let after-row-at = after-row .before .before in
+    let at-loop = after-row-at .before .before in
+    let start = at-loop .before .before .before in
+    let s : List ℕ = start .args .file .now in let g = after-row .row .given in
+    let e = rw (start .pre .rows) at (after-row-at .row-at .ensures) in
+    name-broken s (at-loop .loop .i) (c .refused2 .result) (at-loop .loop .inv .1 .0) (g .0 .0) (omega arith) (sym (g .1) ∙ e) (rw (start .pre .names) at (sym (c .before .before .name-ok .ensures) ∙ not-true _ (c .before .if1 .taken))) (c .refused2 .ensures)
 
 with-task-requires : tie.Need-with-task-requires Inv-loop μ-loop
-with-task-requires c κs = omega (arith, c .before .before .before .before .before .before .before .loop .inv .1 .1 .count, tasks-count (c .before .before .before .before .before .before .before .before .before .before .args .file .now) (c .before .before .before .before .before .before .before .loop .i) 0)
+with-task-requires c κs =
+    let at-loop = c .before .before .before .before .before .before .before in
+    let start = at-loop .before .before .before in
+    omega (arith, at-loop .loop .inv .1 .1 .count, tasks-count (start .args .file .now) (at-loop .loop .i) 0)
 
 add-i : tie.Need-add-i Inv-loop μ-loop
 add-i c = search needs
@@ -94,11 +104,15 @@ loop-less c = search needs
 
 loop-again : tie.Need-loop-again Inv-loop μ-loop
 loop-again c =
-    let s : List ℕ = c .before .before .before .before .before .before .before .before .before .before .before .args .file .now in let i : ℕ = c .before .before .before .before .before .before .before .before .loop .i in let g = c .before .before .before .before .row .given in
-    let e = rw (c .before .before .before .before .before .before .before .before .before .before .before .pre .rows) at (c .before .before .before .before .before .before .row-at .ensures) in let u = g .0 .0 in
+    let after-row = c .before .before .before .before in
+    let after-row-at = after-row .before .before in
+    let at-loop = after-row-at .before .before in
+    let start = at-loop .before .before .before in
+    let s : List ℕ = start .args .file .now in let i : ℕ = at-loop .loop .i in let g = after-row .row .given in
+    let e = rw (start .pre .rows) at (after-row-at .row-at .ensures) in let u = g .0 .0 in
     let b = row-good (taskOf s i) i u (sym (g .1) ∙ e) in
-    let h : Holds (c .with-task .result) (tasksFrom s i 0 ++ (u ∷ [])) = c .with-task .ensures (tasksFrom s i 0) (c .before .before .before .before .before .before .before .before .loop .inv .1 .1) in
-    (omega arith, (c .before .before .before .before .before .before .before .before .loop .inv .1 .0 ∙ good-next s i u (omega arith) (sym (g .1) ∙ e) (rw (c .before .before .before .before .before .before .before .before .before .before .before .pre .names) at (sym (c .before .before .name-ok .ensures) ∙ not-false _ (c .before .if1 .left))), rw (task-more s i u (b .0)) at h))
+    let h : Holds (c .with-task .result) (tasksFrom s i 0 ++ (u ∷ [])) = c .with-task .ensures (tasksFrom s i 0) (at-loop .loop .inv .1 .1) in
+    (omega arith, (at-loop .loop .inv .1 .0 ∙ good-next s i u (omega arith) (sym (g .1) ∙ e) (rw (start .pre .names) at (sym (c .before .before .name-ok .ensures) ∙ not-false _ (c .before .if1 .left))), rw (task-more s i u (b .0)) at h))
 
 returns-3 : tie.Need-returns-3 Inv-loop μ-loop
 returns-3 c = all-good (c .before .before .before .before .args .file .now) (c .before .loop .i) _ (c .before .loop .inv .1 .0) (omega arith) refl refl (c .before .loop .inv .1 .1)

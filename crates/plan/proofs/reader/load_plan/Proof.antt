@@ -14,7 +14,10 @@ use Rattle.plan.proofs.reader.load_plan.Tie as tie
 
 -- the areas that the layout's answer carries
 areas : (c : tie.After-known-told) → AreasOf (c .before .before .before .before .before .args .file .now) (c .before .layout .given .0 .0) × (layoutFault (c .before .before .before .before .before .args .file .now) .number ≡ 0)
-areas c = located (c .before .before .before .before .before .args .file .now) (c .before .layout .given .0 .0) (sym (c .before .layout .given .1) ∙ c .before .before .before .layout-of .ensures)
+areas c =
+    let after-layout-of = c .before .before .before in
+    let start = after-layout-of .before .before in
+    located (start .args .file .now) (c .before .layout .given .0 .0) (sym (c .before .layout .given .1) ∙ after-layout-of .layout-of .ensures)
 
 no-gap : (c : tie.Else1) → gapFault (c .before .before .before .before .before .before .before .args .file .now) ≡ none
 no-gap c = rw (c .if1 .left) at (c .before .stray-byte .ensures .0)
@@ -33,8 +36,10 @@ layout-refused-requires c κs = search needs
 
 returns : tie.Need-returns
 returns c =
-    let s : List ℕ = c .before .before .before .before .before .args .file .now in let g = c .before .enum-told .given in
-    let u = unlocated s (g .0 .0) (g .0 .1 .0) (sym (g .1) ∙ c .before .before .before .layout-of .ensures) in
+    let after-layout-of = c .before .before .before in
+    let start = after-layout-of .before .before in
+    let s : List ℕ = start .args .file .now in let g = c .before .enum-told .given in
+    let u = unlocated s (g .0 .0) (g .0 .1 .0) (sym (g .1) ∙ after-layout-of .layout-of .ensures) in
     loads-refused s (g .0 .0) (g .0 .1 .0) (c .layout-refused .result) (at-layout s (g .0 .0) (g .0 .1 .0) (u .1) (u .0)) (u .0) (rw (g .1) at (c .layout-refused .ensures))
 
 stray-byte-requires : tie.Need-stray-byte-requires
@@ -48,17 +53,22 @@ refused-requires c κs = search needs
 
 returns-2 : tie.Need-returns-2
 returns-2 c =
-    let s : List ℕ = c .before .before .before .before .before .before .before .before .args .file .now in let k : ℕ = c .before .before .stray-byte .result in
+    let after-known-told = c .before .before .before in
+    let start = after-known-told .before .before .before .before .before in
+    let s : List ℕ = start .args .file .now in let k : ℕ = c .before .before .stray-byte .result in
     let e : gapFault s ≡ fault 7 k = rw (le-leb 1 k (ne-zero k (c .before .if1 .taken))) at (c .before .before .stray-byte .ensures .0) in
-    loads-refused s 7 k (c .refused .result) (at-gap s (areas (c .before .before .before) .1) 7 k e (λ z. omega arith)) (λ z. omega arith) (c .refused .ensures)
+    loads-refused s 7 k (c .refused .result) (at-gap s (areas after-known-told .1) 7 k e (λ z. omega arith)) (λ z. omega arith) (c .refused .ensures)
 
 decode-tasks-requires : tie.Need-decode-tasks-requires
 decode-tasks-requires c κs = areas (c .before .before) .0
 
 returns-3 : tie.Need-returns-3
 returns-3 c =
-    let s : List ℕ = c .before .before .before .before .before .before .before .before .before .before .args .file .now in let d = c .before .before .decode-tasks in
-    loads-broken s (d .result) (at-tasks s (areas (c .before .before .before .before .before) .1) (no-gap (c .before .before .before)) (λ z. c .if2 .taken (d .ensures .number ∙ z))) (d .ensures)
+    let else1 = c .before .before .before in
+    let after-known-told = else1 .before .before in
+    let start = after-known-told .before .before .before .before .before in
+    let s : List ℕ = start .args .file .now in let d = c .before .before .decode-tasks in
+    loads-broken s (d .result) (at-tasks s (areas after-known-told .1) (no-gap else1) (λ z. c .if2 .taken (d .ensures .number ∙ z))) (d .ensures)
 
 repeated-name-requires : tie.Need-repeated-name-requires
 repeated-name-requires c κs = areas (c .before .before .before .before .before) .0
@@ -68,16 +78,25 @@ refused-requires-2 c κs = search needs
 
 returns-4 : tie.Need-returns-4
 returns-4 c =
-    let s : List ℕ = c .before .before .before .before .before .before .before .before .before .before .before .before .before .args .file .now in let k : ℕ = c .before .before .repeated-name .result in let d = c .before .before .before .before .before .decode-tasks in
+    let else2 = c .before .before .before in
+    let after-decode-tasks = else2 .before .before in
+    let else1 = after-decode-tasks .before in
+    let after-known-told = else1 .before .before in
+    let start = after-known-told .before .before .before .before .before in
+    let s : List ℕ = start .args .file .now in let k : ℕ = c .before .before .repeated-name .result in let d = after-decode-tasks .decode-tasks in
     let e : sameNameFault s ≡ fault 11 k = rw (le-leb 1 k (ne-zero k (c .before .if3 .taken))) at (c .before .before .repeated-name .ensures) in
-    loads-refused s 11 k (c .refused2 .result) (at-names s (areas (c .before .before .before .before .before .before .before .before) .1) (no-gap (c .before .before .before .before .before .before)) (sym (d .ensures .number) ∙ c .before .before .before .if2 .left) ∙ rw e) (λ z. omega arith) (c .refused2 .ensures)
+    loads-refused s 11 k (c .refused2 .result) (at-names s (areas after-known-told .1) (no-gap else1) (sym (d .ensures .number) ∙ else2 .if2 .left) ∙ rw e) (λ z. omega arith) (c .refused2 .ensures)
 
 returns-5 : tie.Need-returns-5
 returns-5 c =
-    let s : List ℕ = c .before .before .before .before .before .before .before .before .before .before .before .before .args .file .now in let d = c .before .before .before .before .decode-tasks in
+    let after-decode-tasks = c .before .before .before .before in
+    let else1 = after-decode-tasks .before in
+    let after-known-told = else1 .before .before in
+    let start = after-known-told .before .before .before .before .before in
+    let s : List ℕ = start .args .file .now in let d = after-decode-tasks .decode-tasks in
     let e : sameNameFault s ≡ none = rw (c .if3 .left) at (c .before .repeated-name .ensures) in
     let t : tasksFault s .number ≡ 0 = sym (d .ensures .number) ∙ c .before .before .if2 .left in
-    loads-all s (d .result) (at-names s (areas (c .before .before .before .before .before .before .before) .1) (no-gap (c .before .before .before .before .before)) t ∙ rw e) t (d .ensures)
+    loads-all s (d .result) (at-names s (areas after-known-told .1) (no-gap else1) t ∙ rw e) t (d .ensures)
 
 pub load-plan-spec : {M : Type 1} → statement M
 load-plan-spec = tie.close (tie.spec layout-of-requires enum-known-layout enum-told layout-refused-requires returns stray-byte-requires cast-refused refused-requires returns-2 decode-tasks-requires returns-3 repeated-name-requires refused-requires-2 returns-4 returns-5)

@@ -23,7 +23,9 @@ is-named : (c : tie.Else2) → isNamed (c .before .before .before .before .befor
 is-named c = rw (is-accepted (c .before .before)) (rw (count (c .before .before)) at (sym (c .before .between .ensures) ∙ not-false _ (c .if2 .left)))
 
 fits : (c : tie.Else2) → AreasOf (c .before .before .before .before .before .before .args .file .now) (areasOf (c .before .before .before .before .before .before .args .file .now)) × ((1 ≤ c .before .before .before .before .before .before .args .task) × (c .before .before .before .before .before .before .args .task ≤ taskCount (c .before .before .before .before .before .before .args .file .now)))
-fits c = (accepted-areas (c .before .before .before .before .before .before .args .file .now) (is-accepted (c .before .before)), named-range (c .before .before .before .before .before .before .args .file .now) (c .before .before .before .before .before .before .args .task) (is-named c))
+fits c =
+    let start = c .before .before .before .before .before .before in
+    (accepted-areas (start .args .file .now) (is-accepted (c .before .before)), named-range (start .args .file .now) (start .args .task) (is-named c))
 
 read-plan-requires : tie.Need-read-plan-requires
 read-plan-requires c κs = search needs
@@ -33,9 +35,11 @@ slice-aggregate-result c = search needs
 
 returns : tie.Need-returns
 returns c =
-    let s : List ℕ = c .before .before .before .before .before .args .file .now in
-    let e : accepted s ≡ false = ne-eqb (fileFault s .number) 0 (λ z. c .before .if1 .taken (c .before .before .before .read-plan .ensures .number ∙ z)) in
-    no-name (c .before .before .before .before .before .args .file .ptr) s (c .before .before .before .before .before .args .task) _ _ (rw e) refl (search needs) refl
+    let after-read-plan = c .before .before .before in
+    let start = after-read-plan .before .before in
+    let s : List ℕ = start .args .file .now in
+    let e : accepted s ≡ false = ne-eqb (fileFault s .number) 0 (λ z. c .before .if1 .taken (after-read-plan .read-plan .ensures .number ∙ z)) in
+    no-name (start .args .file .ptr) s (start .args .task) _ _ (rw e) refl (search needs) refl
 
 between-requires : tie.Need-between-requires
 between-requires c κs = search needs
@@ -45,8 +49,10 @@ slice-aggregate-result-2 c = search needs
 
 returns-2 : tie.Need-returns-2
 returns-2 c =
-    let e = rw (count (c .before .before .before)) at (sym (c .before .before .between .ensures) ∙ not-true _ (c .before .if2 .taken)) in
-    no-name (c .before .before .before .before .before .before .before .args .file .ptr) (c .before .before .before .before .before .before .before .args .file .now) (c .before .before .before .before .before .before .before .args .task) _ _ (rw (is-accepted (c .before .before .before), e)) refl (search needs) refl
+    let else1 = c .before .before .before in
+    let start = else1 .before .before .before .before in
+    let e = rw (count else1) at (sym (c .before .before .between .ensures) ∙ not-true _ (c .before .if2 .taken)) in
+    no-name (start .args .file .ptr) (start .args .file .now) (start .args .task) _ _ (rw (is-accepted else1, e)) refl (search needs) refl
 
 word4-at-requires : tie.Need-word4-at-requires
 word4-at-requires c κs = omega (arith, fits c)
@@ -80,11 +86,13 @@ part-result-end c = omega (arith, fits (c .before .before), c .name-length .ensu
 
 returns-3 : tie.Need-returns-3
 returns-3 c =
-    let s : List ℕ = c .before .before .before .before .before .before .before .before .before .args .file .now in let i : ℕ = c .before .before .before .before .before .before .before .before .before .args .task - 1 in let k : ℕ = c .before .name-length .result in
+    let else2 = c .before .before .before in
+    let start = else2 .before .before .before .before .before .before in
+    let s : List ℕ = start .args .file .now in let i : ℕ = start .args .task - 1 in let k : ℕ = c .before .name-length .result in
     let w : c .before .before .word4-at .result ≡ namesAt s = c .before .before .word4-at .ensures in
     let l : (nameStart s i + k) - nameStart s i ≡ k = omega arith in
     let e : k ≡ nameLength (nameField s i) = rw w at (c .before .name-length .ensures .0) in
-    a-name (c .before .before .before .before .before .before .before .before .before .args .file .ptr) s (c .before .before .before .before .before .before .before .before .before .args .task) _ _ (is-named (c .before .before .before)) refl (rw w) (rw (w, l, e))
+    a-name (start .args .file .ptr) s (start .args .task) _ _ (is-named else2) refl (rw w) (rw (w, l, e))
 
 pub task-name-spec : {M : Type 1} → statement M
 task-name-spec = tie.close (tie.spec read-plan-requires slice-aggregate-result returns between-requires slice-aggregate-result-2 returns-2 word4-at-requires cast-at sub-at mul-at add-at name-length-requires add-end sub-result part-result-start part-result-end returns-3)

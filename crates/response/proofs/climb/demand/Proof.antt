@@ -47,8 +47,10 @@ shared-slice-read-interference-2 c = search needs
 
 interference-requires : tie.Need-interference-requires Inv-loop μ-loop
 interference-requires c κs =
-    let p = c .before .before .before .before .before .before .before .before .pre in
-    let j : ℕ = c .before .before .before .loop .j in
+    let at-loop = c .before .before .before in
+    let start = at-loop .before .before .before .before .before in
+    let p = start .pre in
+    let j : ℕ = at-loop .loop .j in
     let l = p .0 in
     (l .short j, ((l .some j (omega (arith, l .sized)), l .most j), p .1 .1))
 
@@ -69,7 +71,8 @@ loop-again c =
 returns : tie.Need-returns Inv-loop μ-loop
 unfolding demand
 returns c caps =
-    let e : c .before .loop .j ≡ c .before .before .before .before .before .before .args .i = omega arith in
+    let start = c .before .before .before .before .before .before in
+    let e : c .before .loop .j ≡ start .args .i = omega arith in
     rw e at (c .before .loop .inv .1 .0 caps)
 
 pub demand-spec : {M : Type 1} → statement M

@@ -36,12 +36,14 @@ shared-slice-read-t c = search needs
 
 returns : tie.Need-returns Inv-loop μ-loop
 returns c =
-    let a = c .before .before .before .before .before .before .before .before .args in
+    let start = c .before .before .before .before .before .before .before .before in
+    let a = start .args in
     sym (response-past (timing (a .wcet .now) (a .deadline-cap .now)) (a .periods .now) (a .i) (omega arith))
 
 loop-holds : tie.Need-loop-holds Inv-loop μ-loop
 loop-holds c =
-    let a = c .before .before .before .before .before .before .before .before .args in
+    let start = c .before .before .before .before .before .before .before .before in
+    let a = start .args in
     begins (timing (a .wcet .now) (a .deadline-cap .now)) (a .periods .now) (a .i) (omega arith)
 
 demand-requires : tie.Need-demand-requires Inv-loop μ-loop
@@ -63,7 +65,9 @@ loop-less c = search needs
 
 loop-again : tie.Need-loop-again Inv-loop μ-loop
 loop-again c =
-    goes-on (c .before .before .before .before .before .loop .inv) (c .before .before .before .before .demand .ensures _) (omega arith) (omega arith)
+    let after-demand = c .before .before .before .before in
+    let at-loop = after-demand .before in
+    goes-on (at-loop .loop .inv) (after-demand .demand .ensures _) (omega arith) (omega arith)
 
 returns-2 : tie.Need-returns-2 Inv-loop μ-loop
 returns-2 c =
@@ -71,7 +75,9 @@ returns-2 c =
 
 returns-3 : tie.Need-returns-3 Inv-loop μ-loop
 returns-3 c =
-    passes (c .before .before .before .before .before .loop .inv) (c .before .before .before .before .demand .ensures _) (omega arith)
+    let after-demand = c .before .before .before .before in
+    let at-loop = after-demand .before in
+    passes (at-loop .loop .inv) (after-demand .demand .ensures _) (omega arith)
 
 pub response-time-spec : {M : Type 1} → statement M
 response-time-spec =

@@ -32,8 +32,10 @@ cast-result c = search needs
 
 returns : tie.Need-returns Inv-loop μ-loop
 returns c =
-    let a = c .before .before .before .before .before .before .before .args in let i : ℕ = c .before .before .before .loop .i in let e : i + 1 ≡ suc i = omega arith in
-    rw e (sym (first-missed-is (timing (a .wcet .now) (a .deadline-cap .now)) (a .periods .now) i (record { below = c .before .before .loop-test .taken; misses = sym (c .before .meets-deadline .ensures) ∙ not-true _ (c .if1 .taken); above = c .before .before .before .loop .inv .1 })))
+    let at-loop = c .before .before .before in
+    let start = at-loop .before .before .before .before in
+    let a = start .args in let i : ℕ = at-loop .loop .i in let e : i + 1 ≡ suc i = omega arith in
+    rw e (sym (first-missed-is (timing (a .wcet .now) (a .deadline-cap .now)) (a .periods .now) i (record { below = c .before .before .loop-test .taken; misses = sym (c .before .meets-deadline .ensures) ∙ not-true _ (c .if1 .taken); above = at-loop .loop .inv .1 })))
 
 add-i : tie.Need-add-i Inv-loop μ-loop
 add-i c = search needs

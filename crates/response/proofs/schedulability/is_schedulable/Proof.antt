@@ -29,16 +29,20 @@ meets-deadline-requires c κs = search needs
 
 returns : tie.Need-returns Inv-loop μ-loop
 returns c =
-    let a = c .before .before .before .before .before .before .before .args in let m = c .before .meets-deadline in
-    sym (schedulable-none (timing (a .wcet .now) (a .deadline-cap .now)) (a .periods .now) (c .before .before .before .loop .k - 1) (omega arith) (sym (m .ensures) ∙ not-true _ (c .if1 .taken)))
+    let at-loop = c .before .before .before in
+    let start = at-loop .before .before .before .before in
+    let a = start .args in let m = c .before .meets-deadline in
+    sym (schedulable-none (timing (a .wcet .now) (a .deadline-cap .now)) (a .periods .now) (at-loop .loop .k - 1) (omega arith) (sym (m .ensures) ∙ not-true _ (c .if1 .taken)))
 
 loop-less : tie.Need-loop-less Inv-loop μ-loop
 loop-less c = search needs
 
 loop-again : tie.Need-loop-again Inv-loop μ-loop
 loop-again c =
-    let a = c .before .before .before .before .before .before .before .args in let m = c .before .meets-deadline in let k : ℕ = c .before .before .before .loop .k in
-    (omega arith, λ j l h. elim (eq-or-ne j (k - 1)) [ inl e ↦ rw e (sym (m .ensures) ∙ not-false _ (c .if1 .left)) | inr e ↦ c .before .before .before .loop .inv .1 j (omega arith) h ])
+    let at-loop = c .before .before .before in
+    let start = at-loop .before .before .before .before in
+    let a = start .args in let m = c .before .meets-deadline in let k : ℕ = at-loop .loop .k in
+    (omega arith, λ j l h. elim (eq-or-ne j (k - 1)) [ inl e ↦ rw e (sym (m .ensures) ∙ not-false _ (c .if1 .left)) | inr e ↦ at-loop .loop .inv .1 j (omega arith) h ])
 
 returns-2 : tie.Need-returns-2 Inv-loop μ-loop
 returns-2 c =

@@ -37,7 +37,8 @@ loop-less c = search needs
 
 loop-again : tie.Need-loop-again Inv-loop μ-loop
 loop-again c =
-    let a = c .before .before .before .before .before .before .before .args in
+    let start = c .before .before .before .before .before .before .before in
+    let a = start .args in
     let v = c .before .before .loop .inv in
     let o : List ℕ = c .before .before .loop .times in
     let i : ℕ = c .before .before .loop .i in
@@ -48,7 +49,8 @@ same-length c = search needs
 
 returns : tie.Need-returns Inv-loop μ-loop
 returns c =
-    let a = c .before .before .before .before .before .before .args in
+    let start = c .before .before .before .before .before .before in
+    let a = start .args in
     let o : List ℕ = c .before .loop .times in
     let v = c .before .loop .inv in
     let e : c .before .loop .i ≡ length o = omega arith in

@@ -32,9 +32,11 @@ cast-result c = search needs
 
 returns : tie.Need-returns Inv-loop μ-loop
 returns c =
-    let rs : List ℕ = c .before .before .before .before .args .times .now in
-    let k : ℕ = c .before .before .before .loop .task in
-    sym (c .before .before .before .loop .inv ∙ search-miss rs k (omega arith) (c .if1 .taken))
+    let at-loop = c .before .before .before in
+    let start = at-loop .before in
+    let rs : List ℕ = start .args .times .now in
+    let k : ℕ = at-loop .loop .task in
+    sym (at-loop .loop .inv ∙ search-miss rs k (omega arith) (c .if1 .taken))
 
 add-task : tie.Need-add-task Inv-loop μ-loop
 add-task c = search needs
@@ -44,9 +46,11 @@ loop-less c = search needs
 
 loop-again : tie.Need-loop-again Inv-loop μ-loop
 loop-again c =
-    let rs : List ℕ = c .before .before .before .before .args .times .now in
-    let k : ℕ = c .before .before .before .loop .task in
-    c .before .before .before .loop .inv ∙ search-meet rs k (omega arith) (c .if1 .left)
+    let at-loop = c .before .before .before in
+    let start = at-loop .before in
+    let rs : List ℕ = start .args .times .now in
+    let k : ℕ = at-loop .loop .task in
+    at-loop .loop .inv ∙ search-meet rs k (omega arith) (c .if1 .left)
 
 returns-2 : tie.Need-returns-2 Inv-loop μ-loop
 returns-2 c =

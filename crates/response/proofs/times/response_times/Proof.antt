@@ -57,8 +57,9 @@ no-bounds c = let z : c .before .out-of-bounds .result ≡ 0 = omega (arith, c .
 
 within : (c : tie.Else4) → let d = before-bounds (c .before) in Within (tasksOf (file d)) (periods d)
 within c =
+    let else2 = c .before .before .before .before .before .before .before in
     let d = before-bounds (c .before) in
-    bounds-within (tasksOf (file d)) (periods d) (c .before .before .before .before .before .before .before .if2 .left ∙ held d .count) (ap (λ f. f .number) (no-bounds c))
+    bounds-within (tasksOf (file d)) (periods d) (else2 .if2 .left ∙ held d .count) (ap (λ f. f .number) (no-bounds c))
 
 -- the space, written
 abbrev before-writing : tie.After-analyse → tie.Else4
@@ -68,7 +69,9 @@ written : (c : tie.After-analyse) → let d = before-bounds (before-writing c .b
 written c = let h = held (before-bounds (before-writing c .before)) in rw (h .wcet, h .deadlineCap) at (c .analyse .ensures)
 
 short : (c : tie.After-analyse) → length (c .analyse .last .1 .1 .1 .0) ≤ 16
-short c = omega (arith, c .analyse .kept .1 .1 .1 .0, c .before .before .before .before .before .before .before .before .before .before .before .before .if3 .left, few (before-bounds (before-writing c .before)))
+short c =
+    let else3 = c .before .before .before .before .before .before .before .before .before .before .before .before in
+    omega (arith, c .analyse .kept .1 .1 .1 .0, else3 .if3 .left, few (before-bounds (before-writing c .before)))
 
 load-plan-requires : tie.Need-load-plan-requires
 load-plan-requires c κs = search needs
@@ -111,8 +114,9 @@ slice-aggregate-out-of-bounds-2 c = sym (long (c .before .before .before .before
 
 out-of-bounds-requires : tie.Need-out-of-bounds-requires
 out-of-bounds-requires c κs =
-    let d = c .before .before .before .before .before .before in
-    let n = c .before .before .before .before .before .if2 .left in
+    let else2 = c .before .before .before .before .before in
+    let d = else2 .before in
+    let n = else2 .if2 .left in
     (long d .periodMin .0 ∙ sym n, (long d .periodMax .0 ∙ sym n, rw n (few d)))
 
 refused-requires-4 : tie.Need-refused-requires-4
@@ -158,9 +162,10 @@ same-length c = c .before .before .before .before .before .before .analyse .kept
 
 returns-5 : tie.Need-returns-5
 returns-5 c =
-    let e = before-writing (c .before .before .before .before .before .before) in
+    let after-analyse = c .before .before .before .before .before .before in
+    let e = before-writing after-analyse in
     let d = before-bounds (e .before) in
-    analysed (no-fault d) (e .before .before .before .before .before .before .before .if2 .left ∙ tasks d) (e .before .before .before .before .before .before .if3 .left ∙ tasks d) (no-bounds e) (written (c .before .before .before .before .before .before))
+    analysed (no-fault d) (e .before .before .before .before .before .before .before .if2 .left ∙ tasks d) (e .before .before .before .before .before .before .if3 .left ∙ tasks d) (no-bounds e) (written after-analyse)
     (rw (c .before .before .missed-count .ensures, c .first-missed .ensures))
 
 pub response-times-spec : {M : Type 1} → statement M
