@@ -103,7 +103,7 @@ module _ {ts : List Task} {wcet caps mins maxs ws : List ℕ} (g : ColumnsOf ts 
           module _ (e : test node ≡ false) (l : length v ≡ length work) where
             pub node-fails : Unschedulable wcet caps maxs node
             node-fails = record {
-              columns = record { limits = node-limits; works = λ k b. rw (g .wcet-is) (sane-at (g .sane) k .wcet-some (omega (arith, width .0))); capped = omega (arith, width) };
+              columns = record { limits = node-limits; capped = omega (arith, width) };
               sized = omega (arith, width, within .sized);
               high = λ k. rw (g .maxs-is) (within .high k);
               most = λ k. rw (g .maxs-is) (sane-at (g .sane) k .max-most);

@@ -13,9 +13,12 @@ use borrow.Author.Tests.{leb-true, le-leb, lt-leb}
 use Rattle.plan.proofs.Tests.{le-or-lt, eq-or-ne, not-false}
 use Rattle.response.specs.Analysis.{Timing, ceiling, ownDemand, responseTime, meets}
 use Rattle.response.specs.Claims.{Covers}
+use Rattle.response.specs.Inner.{Begins}
 use Rattle.response.proofs.Ceiling.{ceiling-le, le-ceiling}
 use Rattle.response.proofs.Demand.{demand-less, demand-same}
 use Rattle.response.proofs.Exactness.{response-exact}
+use Rattle.response.proofs.Dominance.{set-mono}
+use Rattle.response.proofs.Sustainable.{covers-up}
 
 -- the least period at which a task runs as often by time t as at period p
 abbrev pub alike : ℕ → ℕ → ℕ
@@ -85,3 +88,11 @@ module _ (T : Timing) (u : List ℕ) (i : ℕ) (b : i < length u) where
           ]),
         );
       })
+
+-- a task below responds no earlier at a shorter period of task i
+module _ (T : Timing) (u : List ℕ) (i k : ℕ) (w : 1 ≤ ownDemand T k) {y : ℕ} (some : (j : ℕ) → j < k → 1 ≤ getD (set u i y) j 0) where
+  pub raised-begins : {p r : ℕ} → r ≡ responseTime T (set u i p) k → 1 ≤ r → y ≤ p → Begins T (set u i y) k r
+  raised-begins {p} is s l = record {
+    some = s;
+    below = λ t c. rw is (response-exact T (set u i p) k w .least t (covers-up T (set u i y) (set u i p) k t some (λ j h. set-mono u i l j) c) .1);
+  }

@@ -13,27 +13,28 @@ use borrow.Author.Tests.{lt-leb, le-leb}
 use Rattle.plan.specs.Tasks.{maxTicks}
 use Rattle.plan.proofs.Tests.{le-or-lt, eq-or-ne}
 use Rattle.response.specs.Analysis.{Timing, timing, taskTotal, responseTime, meets, firstMeet, schedulable}
-use Rattle.response.specs.Inner.{Limits}
+use Rattle.response.specs.Inner.{Limits, Begins}
 use Rattle.response.proofs.Limits.{limits-set}
-use Rattle.response.proofs.Exactness.{response-exact}
+use Rattle.response.proofs.Exactness.{response-exact, own-begins}
 use Rattle.response.proofs.Dominance.{set-at-most}
 use Rattle.response.proofs.Sustainable.{meets-set, first-all, all-schedulable, schedulable-none}
 use Rattle.optimizer.specs.Mua.{Columns, Range, Unschedulable, LastMiss, Raised, Moved}
 use Rattle.optimizer.specs.Search.{muaFrom, mua}
 use Rattle.optimizer.proofs.Maximal.{raised-is}
-use Rattle.optimizer.proofs.OnePeriod.{alike, alike-le, alike-runs, own-meets, runs-meets}
+use Rattle.optimizer.proofs.OnePeriod.{alike, alike-le, alike-runs, own-meets, runs-meets, raised-begins}
 
 pub columns-inside : {wcet caps u : List ℕ} → Columns wcet caps u → {k : ℕ} → k < length u → (k < length wcet) × (k < length caps)
 columns-inside c h = (omega (arith, c .limits .sized), omega (arith, c .limits .sized, c .capped))
 
 pub columns-set : {wcet caps u : List ℕ} → Columns wcet caps u → (i v : ℕ) → i < length u → getD u i 0 ≤ v → v ≤ maxTicks → Columns wcet caps (set u i v)
-columns-set c i v b p q = record { limits = limits-set (c .limits) i v (omega (arith, c .limits .some i b)) q; works = c .works; capped = c .capped }
+columns-set c i v b p q = record { limits = limits-set (c .limits) i v (omega (arith, c .limits .some i b)) q; capped = c .capped }
 
 pub moved-on : {wcet u u′ u″ : List ℕ} {i : ℕ} → Moved wcet i u u′ → Moved wcet i u′ u″ → Moved wcet i u u″
 moved-on a b = record { limits = b .limits; only = λ x. b .only x ∙ a .only x }
 
--- probing for the last period of task i at which task k misses its deadline: the last found, and one from which on task k meets it
-pub record Probing (T : Timing) (u : List ℕ) (i k low most : ℕ) (u′ : List ℕ) (last high turn : ℕ) : Type 0 where
+-- probing for the last period of task i at which task k misses its deadline: the last found, one from which on task k meets it,
+-- and where its climbs between the two may begin
+pub record Probing (T : Timing) (u : List ℕ) (i k low most : ℕ) (u′ : List ℕ) (last high start turn : ℕ) : Type 0 where
   pub moved : Moved (T .wcet) i u u′
   pub above : low ≤ last
   pub upto : last ≤ most
@@ -41,9 +42,13 @@ pub record Probing (T : Timing) (u : List ℕ) (i k low most : ℕ) (u′ : List
   pub turns : turn + (high - last) ≤ most + 1
   pub misses : low < last → meets T (set u i last) k ≡ false
   pub past : (y : ℕ) → high ≤ y → y ≤ most → meets T (set u i y) k ≡ true
+  pub begins : (y : ℕ) → last < y → y < high → Begins T (set u i y) k start
 
 module _ {wcet caps u : List ℕ} {i k low most : ℕ} (q : Range wcet caps u i low most) (o : (i < k) × (k < length u)) where
-  pub probing-start : Probing (timing wcet caps) u i k low most u low (most + 1) 0
+  works : 1 ≤ getD wcet k 0
+  works = q .columns .limits .works k (columns-inside (q .columns) (o .1) .0)
+
+  pub probing-start : Probing (timing wcet caps) u i k low most u low (most + 1) (getD wcet k 0) 0
   probing-start = record {
     moved = record { limits = q .columns .limits; only = λ x. refl };
     above = omega arith;
@@ -52,9 +57,10 @@ module _ {wcet caps u : List ℕ} {i k low most : ℕ} (q : Range wcet caps u i 
     turns = omega arith;
     misses = λ l. let z : ⊥ = omega arith in absurd z;
     past = λ y a b. let z : ⊥ = omega arith in absurd z;
+    begins = λ y a b. own-begins (timing wcet caps) (set u i y) k works;
   }
 
-  module _ {u′ : List ℕ} {last high turn : ℕ} (g : Probing (timing wcet caps) u i k low most u′ last high turn) where
+  module _ {u′ : List ℕ} {last high start turn : ℕ} (g : Probing (timing wcet caps) u i k low most u′ last high start turn) where
     pub probing-end : high ≤ last + 1 → LastMiss (timing wcet caps) u i k (suc k) low most last
     probing-end e = record {
       above = g .above;
@@ -70,17 +76,17 @@ module _ {wcet caps u : List ℕ} {i k low most : ℕ} (q : Range wcet caps u i 
       pub probing-limits : Limits wcet (set u′ i p)
       probing-limits = probing-moved .limits
 
-      module _ {r : ℕ} (is : r ≡ responseTime (timing wcet caps) (set u′ i p) k) where
-        works : 1 ≤ getD wcet k 0
-        works = q .columns .works k (columns-inside (q .columns) (o .1) .0)
+      pub probing-begins : Begins (timing wcet caps) (set u′ i p) k start
+      probing-begins = rw (g .moved .only p) (g .begins p (a .0) (a .1))
 
+      module _ {r : ℕ} (is : r ≡ responseTime (timing wcet caps) (set u′ i p) k) where
         pub probing-response : r ≤ maxTicks
         probing-response = elim (le-or-lt 1 r) [
           | inl h ↦ omega (arith, response-exact (timing wcet caps) (set u′ i p) k works .covers (omega arith) .early, probing-limits .most k)
           | inr h ↦ omega arith
         ]
 
-        pub probing-miss : r ≡ 0 → Probing (timing wcet caps) u i k low most (set u′ i p) p high (turn + 1)
+        pub probing-miss : r ≡ 0 → Probing (timing wcet caps) u i k low most (set u′ i p) p high start (turn + 1)
         probing-miss e = record {
           moved = probing-moved;
           above = omega (arith, g .above);
@@ -89,9 +95,10 @@ module _ {wcet caps u : List ℕ} {i k low most : ℕ} (q : Range wcet caps u i 
           turns = omega (arith, g .turns);
           misses = λ l. lt-leb 1 (responseTime (timing wcet caps) (set u i p) k) (omega (arith, rw (g .moved .only p) at is));
           past = g .past;
+          begins = λ y c d. g .begins y (omega arith) d;
         }
 
-        pub probing-meet : 1 ≤ r → Probing (timing wcet caps) u i k low most (set u′ i p) last (alike r p) (turn + 1)
+        pub probing-meet : 1 ≤ r → Probing (timing wcet caps) u i k low most (set u′ i p) last (alike r p) r (turn + 1)
         probing-meet s = let l = alike-le r p s (omega arith) in record {
           moved = probing-moved;
           above = g .above;
@@ -100,6 +107,7 @@ module _ {wcet caps u : List ℕ} {i k low most : ℕ} (q : Range wcet caps u i 
           turns = omega (arith, g .turns);
           misses = g .misses;
           past = λ y c d. runs-meets (timing wcet caps) u i (q .inside) k p (o .0) works (rw (g .moved .only p) at is) s y (alike-runs r p s (omega arith) y c);
+          begins = λ y c d. raised-begins (timing wcet caps) u i k works (λ j h. limits-set (q .columns .limits) i y (omega arith) (omega (arith, g .under, q .ticks)) .some j (omega (arith, length-set u i y))) (rw (g .moved .only p) at is) s (omega arith);
         }
 
 -- task by task, from the lowest up
@@ -147,13 +155,13 @@ module _ {wcet caps u : List ℕ} {i most : ℕ} (q : Range wcet caps u i (getD 
     range-from = record {
       columns = range-columns;
       inside = omega (arith, length-set u i most, q .inside);
-      order = omega (arith, q .order, response-exact (timing wcet caps) (set u i most) i (q .columns .works i i-inside) .covers (omega arith) .early, getD-set-same u i most 0 (q .inside));
+      order = omega (arith, q .order, response-exact (timing wcet caps) (set u i most) i (q .columns .limits .works i i-inside) .covers (omega arith) .early, getD-set-same u i most 0 (q .inside));
       ticks = q .ticks;
     }
 
     pub raised-last : {v : ℕ} → schedulable (timing wcet caps) u ≡ false → firstMeet (timing wcet caps) u i ≡ true
         → LastMiss (timing wcet caps) (set u i most) i (suc i) (length (set u i most)) (max (getD u i 0) (r - 1)) most v → Raised (timing wcet caps) u i most (set u i v) × (leb r v ≡ meets (timing wcet caps) (set u i v) i)
-    raised-last {v} e f l = let own = own-meets (timing wcet caps) u i (q .inside) most (q .columns .works i i-inside) is s in (
+    raised-last {v} e f l = let own = own-meets (timing wcet caps) u i (q .inside) most (q .columns .limits .works i i-inside) is s in (
       record {
         value = v;
         is = refl;

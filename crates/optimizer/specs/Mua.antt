@@ -8,10 +8,9 @@ use Rattle.plan.specs.Tasks.{maxTicks}
 use Rattle.response.specs.Analysis.{Timing, timing, meets, schedulable}
 use Rattle.response.specs.Inner.{Limits}
 
--- tasks, each with work to do, at periods within the limits
+-- tasks at periods within the limits
 pub record Columns (wcet caps u : List ℕ) : Type 0 where
   pub limits : Limits wcet u
-  pub works : (k : ℕ) → k < length wcet → 1 ≤ getD wcet k 0
   pub capped : length caps ≡ length wcet
 
 -- where the period of task i may go

@@ -1,4 +1,5 @@
 use super::nodes::read_node;
+use response::response_from;
 use response::response_time;
 use response::rounded_up;
 ghost use mathlib.Core.Path.{_≡_};
@@ -32,7 +33,8 @@ fn probe(low: u32, high: u32, turn: u32) -> u32
 }
 
 // The last period of task i, from low to most, at which task k misses its deadline; low where there is none above.
-// Where task k meets its deadline, it meets it down to the least period at which task i runs as often within its response time.
+// Where task k meets its deadline, it meets it down to the least period at which task i runs as often within its response time,
+// and at every shorter period it responds no earlier: its next climb begins there.
 fn last_miss(
     wcet: &[u32],
     deadline_cap: &[u32],
@@ -47,14 +49,16 @@ fn last_miss(
 {
     let mut last = low;
     let mut high = most + 1;
+    let mut start = wcet[k];
     let mut turn: u32 = 0;
     while last + 1 < high {
         let period = probe(last, high, turn);
         u[i] = period;
-        let response = response_time(wcet, deadline_cap, u, k);
+        let response = response_from(wcet, deadline_cap, u, k, start);
         if response == 0 {
             last = period;
         } else {
+            start = response;
             high = rounded_up(response, rounded_up(response, period));
         }
         turn += 1;

@@ -1,6 +1,6 @@
 -- Gaps: where no area holds a byte, and how far an area goes.
-use mathlib.Core.Path.{_≡_, refl, sym, _∙_}
-use mathlib.Core.Bool.{Bool, true, false, _&&_, not}
+use mathlib.Core.Path.{_≡_, sym, _∙_}
+use mathlib.Core.Bool.{true, false, not}
 use mathlib.Core.Logic.{inl, inr}
 use mathlib.Core.List.{List}
 use Prim.Native.Nat.{ℕ, _≤_, _<_}
@@ -11,17 +11,13 @@ use borrow.Author.Tests.{leb-true, ltb-true, le-leb, lt-ltb}
 use Rattle.plan.specs.declared.layout.Areas.{Areas}
 use Rattle.plan.specs.Layout.{rowsAt, rowsEnd, namesAt, namesEnd, inArea, inGap}
 use Rattle.plan.specs.Inner.{areasOf, AreasOf, areaEnd}
-use Rattle.plan.proofs.Tests.{bool, and-left, and-right, and-both}
+use Rattle.plan.proofs.Tests.{bool, and-left, and-right, and-both, and-false}
 
 area-holds : (start end at : ℕ) → inArea start end at ≡ true → (start ≤ at) × (at < end)
 area-holds start end at e = (leb-true start at (and-left (leb start at) (ltb at end) e), ltb-true at end (and-right (leb start at) (ltb at end) e))
 
 area-spans : (start end k : ℕ) → start ≤ k → k < end → inArea start end k ≡ true
 area-spans start end k l m = and-both (le-leb start k l) (lt-ltb k end m)
-
-and-false : (b : Bool) → (b && false) ≡ false
-and-false true = refl
-and-false false = refl
 
 module _ {s : List ℕ} {a : Areas} (w : AreasOf s a) (at : ℕ) where
   same-end : areaEnd a at ≡ areaEnd (areasOf s) at

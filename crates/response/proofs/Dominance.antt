@@ -10,7 +10,7 @@ use lib.ListN.{length, getD, set}
 use lib.Seq.{getD-set-same, getD-set-other, set-set, set-out, ext-getD}
 use borrow.Author.Tests.{leb-true, eqb-true, le-leb, lt-leb, eq-eqb}
 use Rattle.plan.specs.Names.{same}
-use Rattle.plan.proofs.Tests.{le-or-lt, eq-or-ne, not-false, and-left, and-right, and-both}
+use Rattle.plan.proofs.Tests.{le-or-lt, eq-or-ne, not-false, and-left, and-right, and-both, and-false}
 use Rattle.response.specs.Assignments.{dominates}
 
 pub same-refl : (xs : List ℕ) → same xs xs ≡ true
@@ -70,10 +70,6 @@ not-dominates [] ys k e h = let z : ⊥ = omega arith in absurd z
 not-dominates (x ∷ xs) [] k e h = let z : ⊥ = omega arith in absurd z
 not-dominates (x ∷ xs) (y ∷ ys) zero e h = rw (lt-leb x y h)
 not-dominates (x ∷ xs) (y ∷ ys) (suc k) e h = rw (not-dominates xs ys k (omega arith) h) (and-false (leb x y))
-  where
-    and-false : (b : Bool) → b && false ≡ false
-    and-false true = refl
-    and-false false = refl
 
 -- one period set
 pub set-cases : (xs : List ℕ) (i v k : ℕ) → ((k ≡ i) × (getD (set xs i v) k 0 ≡ v)) ⊎ (getD (set xs i v) k 0 ≡ getD xs k 0)
@@ -87,3 +83,12 @@ at-most-set xs i {v} h k = elim (set-cases xs i v k) [ inl s ↦ rw (s .1, s .0)
 
 pub set-at-most : (xs ys : List ℕ) (i : ℕ) {v : ℕ} → AtMost xs ys → v ≤ getD ys i 0 → AtMost (set xs i v) ys
 set-at-most xs ys i {v} a h k = elim (set-cases xs i v k) [ inl s ↦ rw (s .1, s .0) h | inr s ↦ rw s (a k) ]
+
+pub set-mono : (xs : List ℕ) (i : ℕ) {a b : ℕ} → a ≤ b → AtMost (set xs i a) (set xs i b)
+set-mono xs i {a} {b} h k = elim (eq-or-ne k i) [
+  | inl e ↦ elim (le-or-lt (length xs) i) [
+    | inl o ↦ rw (set-out xs i a o, set-out xs i b o) (omega arith)
+    | inr l ↦ rw (e, getD-set-same xs i a 0 l, getD-set-same xs i b 0 l) h
+  ]
+  | inr e ↦ rw (getD-set-other xs i k a 0 e, getD-set-other xs i k b 0 e) (omega arith)
+]

@@ -8,6 +8,7 @@ use borrow.Author.Tests.{lt-ltb, le-ltb, le-leb, lt-leb}
 use Rattle.plan.proofs.Tests.{le-or-lt}
 use Rattle.response.specs.Analysis.{Timing, ownDemand, demand, deadline, climbFrom, responseTime}
 use Rattle.response.specs.Claims.{Covers, IsResponseTime}
+use Rattle.response.specs.Inner.{Begins}
 use Rattle.response.proofs.Demand.{demand-monotone, demand-own}
 
 module _ (T : Timing) (xs : List ℕ) (i : ℕ) where
@@ -63,30 +64,23 @@ module _ (T : Timing) (xs : List ℕ) (i : ℕ) where
   unfolding responseTime
   response-past h = climb-past (suc (deadline T xs i)) (ownDemand T i) h
 
-  -- the climb stands at some t up to the deadline, with steps enough to pass it
-  pub record Climbs (t : ℕ) : Type 0 where
-    pub left : ℕ
-    pub goes : responseTime T xs i ≡ climbFrom (suc left) T xs i t
-    pub enough : deadline T xs i ≤ left + t
-    pub within : t ≤ deadline T xs i
+  pub own-begins : 1 ≤ ownDemand T i → Begins T xs i (ownDemand T i)
+  own-begins h = record { some = h; below = λ s c. omega (arith, c .covers, demand-own T xs i s) }
 
-  pub begins : ownDemand T i ≤ deadline T xs i → Climbs (ownDemand T i)
-  unfolding responseTime
-  begins h = record { left = deadline T xs i; goes = refl; enough = omega arith; within = h }
+-- one turn of a climb that stands at t: it is past the deadline, or stops, or goes on from the demand m by t
+module _ {T : Timing} {xs : List ℕ} {i : ℕ} (w : 1 ≤ ownDemand T i) where
+  pub past : {t : ℕ} → Begins T xs i t → deadline T xs i < t → 0 ≡ responseTime T xs i
+  past b h = elim (le-or-lt 1 (responseTime T xs i)) [
+    | inl l ↦ let c = response-exact T xs i w .covers l in absurd (omega (arith, c .early, b .below (responseTime T xs i) c))
+    | inr l ↦ omega arith
+  ]
 
--- one turn: the climb stops at t, or passes the deadline, or goes on from the demand m by t
-module _ {T : Timing} {xs : List ℕ} {i t : ℕ} (c : Climbs T xs i t) {m : ℕ} (e : m ≡ demand T xs i t) where
-  pub stops : m ≤ t → t ≡ responseTime T xs i
-  stops h = sym (c .goes ∙ climb-stop T xs i (c .left) t (c .within) (omega arith))
+  module _ {t m : ℕ} (b : Begins T xs i t) (e : m ≡ demand T xs i t) where
+    pub stops : t ≤ deadline T xs i → m ≤ t → t ≡ responseTime T xs i
+    stops d h =
+        let x = response-exact T xs i w in
+        let l = x .least t (record { some = b .some; early = d; covers = omega arith }) in
+        omega (arith, l .1, b .below (responseTime T xs i) (x .covers (l .0)))
 
-  on : t < m → responseTime T xs i ≡ climbFrom (c .left) T xs i m
-  on h = rw e (c .goes ∙ climb-on T xs i (c .left) t (c .within) (omega arith))
-
-  pub passes : deadline T xs i < m → 0 ≡ responseTime T xs i
-  passes h = sym (on (omega (arith, c .within)) ∙ climb-past T xs i (c .left) m h)
-
-  pub goes-on : t < m → m ≤ deadline T xs i → Climbs T xs i m
-  goes-on h l = from (c .left) (on h) (c .enough) where
-    from : (left : ℕ) → responseTime T xs i ≡ climbFrom left T xs i m → deadline T xs i ≤ left + t → Climbs T xs i m
-    from zero g n = absurd (omega arith)
-    from (suc left) g n = record { left = left; goes = g; enough = omega arith; within = l }
+    pub goes-on : t < m → Begins T xs i m
+    goes-on h = record { some = omega arith; below = λ s c. omega (arith, c .covers, demand-monotone T xs i t s (b .below s c)) }

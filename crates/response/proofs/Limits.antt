@@ -16,6 +16,7 @@ limits-set {wcet} {xs} l i v p q =
       | inr b ↦ record {
         sized = length-set xs i v ∙ l .sized;
         few = l .few;
+        works = l .works;
         short = l .short;
         some = λ k h. elim (eq-or-ne k i) [
           | inl e ↦ rw (e, getD-set-same xs i v 0 b) p

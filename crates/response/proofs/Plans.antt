@@ -72,6 +72,7 @@ module _ {ts : List Task} (a : AllSane ts) where
       record {
         sized = w .sized ∙ sym n;
         few = rw n few;
+        works = λ k h. sane-at a k .wcet-some (rw n at h);
         short = λ k. sane-at a k .wcet-most;
         some = λ k h. some-within w k (omega (arith, w .sized));
         most = λ k. omega (arith, w .high k, sane-at a k .max-most);

@@ -4,7 +4,7 @@ ghost use Prim.Native.Nat.{ℕ, _*_, _≤_, _<_, min};
 ghost use lib.ListN.{length};
 ghost use Rattle.plan.specs.Tasks.{maxTicks};
 ghost use Rattle.response.specs.Analysis.{timing, ceiling, demand, responseTime, meets};
-ghost use Rattle.response.specs.Inner.{Limits};
+ghost use Rattle.response.specs.Inner.{Limits, Begins};
 
 fn wide(x: u32) -> u64
     ensures { λ r. ⌜ r ≡ x ⌝ }
@@ -53,16 +53,22 @@ fn demand(wcet: &[u32], periods: &[u32], i: usize, t: u32) -> u64
     sum
 }
 
-// The least t that covers the demand of task i by t, 0 past its deadline.
-pub fn response_time(wcet: &[u32], deadline_cap: &[u32], periods: &[u32], i: usize) -> u32
-    requires { ⌜ (Limits (now wcet) (now periods)) × ((i < length (now wcet)) × (i < length (now «deadline_cap»))) ⌝ }
+// The least t that covers the demand of task i by t, 0 past its deadline: the climb, from a time that no such t undercuts.
+pub fn response_from(
+    wcet: &[u32],
+    deadline_cap: &[u32],
+    periods: &[u32],
+    i: usize,
+    start: u32,
+) -> u32
+    requires { ⌜ (Limits (now wcet) (now periods)) × ((i < length (now wcet)) × (i < length (now «deadline_cap»))) × Begins (timing (now wcet) (now «deadline_cap»)) (now periods) i start ⌝ }
     ensures { λ r. ⌜ r ≡ responseTime (timing (now (wcet .entry)) (now («deadline_cap» .entry))) (now (periods .entry)) i ⌝ }
 {
     let deadline = deadline_of(periods[i], deadline_cap[i]);
-    let mut t = wcet[i];
-    if deadline < t {
+    if deadline < start {
         return 0;
     }
+    let mut t = start;
     let r = loop {
         let m = demand(wcet, periods, i, t);
         if m <= wide(t) {
@@ -74,6 +80,14 @@ pub fn response_time(wcet: &[u32], deadline_cap: &[u32], periods: &[u32], i: usi
         t = m as u32;
     };
     r
+}
+
+// The same, from the task's own demand.
+pub fn response_time(wcet: &[u32], deadline_cap: &[u32], periods: &[u32], i: usize) -> u32
+    requires { ⌜ (Limits (now wcet) (now periods)) × ((i < length (now wcet)) × (i < length (now «deadline_cap»))) ⌝ }
+    ensures { λ r. ⌜ r ≡ responseTime (timing (now (wcet .entry)) (now («deadline_cap» .entry))) (now (periods .entry)) i ⌝ }
+{
+    response_from(wcet, deadline_cap, periods, i, wcet[i])
 }
 
 // Whether task i meets its deadline.

@@ -5,6 +5,7 @@ mod times; // times.rt: TIMES
 
 pub use climb::deadline_of;
 pub use climb::meets_deadline;
+pub use climb::response_from;
 pub use climb::response_time;
 pub use climb::rounded_up;
 pub use schedulability::first_missed;

@@ -33,7 +33,7 @@ last-miss-requires c κs =
     let p = start .pre in
     let v = c .before .before .loop .inv .1 in
     let n = v .1 .limits .sized ∙ sym (p .columns .limits .sized) in (
-      record { columns = record { limits = v .1 .limits; works = p .columns .works; capped = p .columns .capped }; inside = omega arith; order = v .0 .upto; ticks = p .ticks },
+      record { columns = record { limits = v .1 .limits; capped = p .columns .capped }; inside = omega arith; order = v .0 .upto; ticks = p .ticks },
       (omega arith, omega arith),
     )
 
