@@ -45,11 +45,11 @@ fn header_fault(file: &[u8]) -> u32
     if word2_at(file, 0) != 1 {
         return 2;
     }
-    let tasks = word2_at(file, 2) as usize;
-    if tasks < 1 {
+    let count = word2_at(file, 2) as usize;
+    if count < 1 {
         return 3;
     }
-    if Plan::MAX_TASKS < tasks {
+    if Plan::MAX_TASKS < count {
         return 3;
     }
     if word4_at(file, 12) as usize != size {

@@ -41,8 +41,8 @@ returns-3 c =
 word2-at-requires-2 : tie.Need-word2-at-requires-2
 word2-at-requires-2 c κs = search needs
 
-cast-tasks : tie.Need-cast-tasks
-cast-tasks c = search needs
+cast-count : tie.Need-cast-count
+cast-count c = search needs
 
 returns-4 : tie.Need-returns-4
 returns-4 c =
@@ -83,7 +83,7 @@ header-fault-spec =
     word2-at-requires
     returns-3
     word2-at-requires-2
-    cast-tasks
+    cast-count
     returns-4
     returns-5
     word4-at-requires
