@@ -1,19 +1,15 @@
 // Examples and tests that are run, not proved: each line says what was tried and what came out.
 mod print; // print.rt: text and numbers to standard output
-mod build; // build.rt: plan files from rows of numbers
-mod files; // files.rt: READ and NAME
-mod times; // times.rt: TIMES
-mod cheapest; // cheapest.rt: CHEAPEST
-mod listings; // listings.rt: the text of program timetable
+mod list; // list.rt: lists of numbers, read and set at any index
+mod words; // words.rt: a text's pieces and numbers
+mod file; // file.rt: plan files, from words and from rows of numbers
+mod cases; // cases.rt: the examples of file stdin, by READ, NAME, TIMES, CHEAPEST and the listing
 mod draw; // draw.rt: small plans from a fixed sequence
-mod brute; // brute.rt: TIMES against a clock
+mod clock; // clock.rt: TIMES against a clock
 mod planner; // planner.rt: CHEAPEST against an enumeration of all period assignments
+mod many; // many.rt: both over many drawn plans
 
 fn main() {
-    files::run();
-    times::run();
-    cheapest::run();
-    listings::run();
-    brute::run();
-    planner::run();
+    cases::run();
+    many::run();
 }

@@ -1,19 +1,19 @@
-use super::brute::add;
-use super::brute::first_missed;
-use super::brute::lesser;
-use super::brute::report;
-use super::build::at;
-use super::build::build;
-use super::build::column;
-use super::build::first;
-use super::build::first_mut;
-use super::build::set;
-use super::cheapest::all;
+use super::clock::first_missed;
+use super::clock::lesser;
 use super::draw::draw;
 use super::draw::draw_length;
 use super::draw::draw_plan;
+use super::draw::sequence;
 use super::draw::width;
-use super::print::text;
+use super::file::build;
+use super::list::add;
+use super::list::all;
+use super::list::at;
+use super::list::column;
+use super::list::first;
+use super::list::first_mut;
+use super::list::set;
+use super::words::part;
 use optimizer::Answer;
 use std::num::wrapping_add_u32;
 use std::num::wrapping_sub_u32;
@@ -90,11 +90,12 @@ fn enumerate(rows: &[u32], count: u32, periods: &mut [u32]) -> u32 {
     best
 }
 
-// The first of up to three tasks whose wcet exceeds its longest period or its cap, or 0.
+// Whether a task's wcet exceeds its longest period or its cap.
 fn alone(rows: &[u32], task: usize) -> bool {
     lesser(column(rows, task, 2), column(rows, task, 3)) < column(rows, task, 0)
 }
 
+// The first such of up to three tasks, or 0.
 fn first_alone(rows: &[u32]) -> u32 {
     if alone(rows, 0) {
         return 1;
@@ -130,12 +131,43 @@ fn right_answer(r: Answer, rows: &[u32], optimum: &[u32], periods: &[u32]) -> bo
         && same(periods, optimum, 2)
 }
 
-// A stop's bound is at most the least cost, and its budget or its room was below the number of assignments.
-fn right_stop(r: Answer, least: u32, budget: u64, short: bool) -> bool {
-    if r.number == 33 {
-        return short && r.place == 0 && r.bound <= least as u64 && r.rounds == budget;
+// The length of a work space with room for every assignment.
+fn enough(rows: &[u32]) -> usize {
+    product(assignments(rows), (rows.len() / 5 % 4) as u32) as usize
+}
+
+// Whether the budget or the room is below the number of assignments, as at every stop.
+fn is_short(rows: &[u32], budget: u64, room: usize) -> bool {
+    if budget < assignments(rows) as u64 {
+        return true;
     }
-    short && r.number == 34 && r.place == 0 && r.bound <= least as u64
+    room < enough(rows)
+}
+
+// A stop's bound is at most the least cost.
+fn right_stop(r: Answer, least: u32, budget: u64) -> bool {
+    if r.number == 33 {
+        return r.place == 0 && r.bound <= least as u64 && r.rounds == budget;
+    }
+    r.number == 34 && r.place == 0 && r.bound <= least as u64
+}
+
+// Whether an answer is that of the enumeration, whose `optimum` is the best assignment, or the longest periods where none is schedulable.
+fn right_outcome(
+    r: Answer,
+    rows: &[u32],
+    optimum: &[u32],
+    budget: u64,
+    periods: &[u32],
+    room: usize,
+) -> bool {
+    if first_missed(rows, optimum) != 0 {
+        return right_refusal(r, rows, optimum);
+    }
+    if r.number == 0 {
+        return right_answer(r, rows, optimum, periods);
+    }
+    is_short(rows, budget, room) && right_stop(r, cost(rows, optimum), budget)
 }
 
 // Both spaces, whose numbers were 7.
@@ -169,180 +201,83 @@ fn counter(number: u32) -> usize {
     0
 }
 
-fn tasks_of(rows: &[u32]) -> u32 {
-    (rows.len() / 5 % 4) as u32
-}
-
-// The length of a work space with room for every assignment.
-fn enough(rows: &[u32]) -> usize {
-    product(assignments(rows), tasks_of(rows)) as usize
-}
-
-// Whether the budget or the room is below the number of assignments, as at every stop.
-fn is_short(rows: &[u32], budget: u64, numbers: usize) -> bool {
-    if budget < assignments(rows) as u64 {
-        return true;
-    }
-    numbers < enough(rows)
-}
-
-fn right_outcome(
-    r: Answer,
+// The counter of CHEAPEST's answer: 0, that of the differences, unless all of it is right.
+fn judge(
+    file: &[u8],
     rows: &[u32],
-    found: bool,
     optimum: &[u32],
     budget: u64,
-    short: bool,
-    periods: &[u32],
-) -> bool {
-    if !found {
-        return right_refusal(r, rows, optimum);
-    }
-    if r.number == 0 {
-        return right_answer(r, rows, optimum, periods);
-    }
-    right_stop(r, cost(rows, optimum), budget, short)
-}
-
-// The counter of an answer: 0, that of the differences, unless all of it is right.
-fn judged(
-    r: Answer,
-    rows: &[u32],
-    found: bool,
-    optimum: &[u32],
-    budget: u64,
-    periods: &[u32],
-    work: &[u32],
+    periods: &mut [u32],
+    work: &mut [u32],
 ) -> usize {
-    let short = is_short(rows, budget, work.len());
+    let r = optimizer::cheapest_periods(file, budget, periods, work);
     if r.rounds <= budget
         && r.rounds <= assignments(rows) as u64
         && right_spaces(r, periods, work)
-        && right_outcome(r, rows, found, optimum, budget, short, periods)
+        && right_outcome(r, rows, optimum, budget, periods, work.len())
     {
         return counter(r.number);
     }
     0
 }
 
-fn fill(list: &mut [u32], v: u32) {
-    let mut i: usize = 0;
-    while i < list.len() {
-        list[i] = v;
-        i += 1;
-    }
-}
-
-// CHEAPEST against the enumeration, whose `optimum` is the best assignment, or the longest periods where nothing was found.
-fn judge(
-    file: &[u8],
-    rows: &[u32],
-    found: bool,
-    optimum: &[u32],
-    budget: u64,
-    periods: &mut [u32],
-    work: &mut [u32],
-) -> usize {
-    fill(periods, 7);
-    fill(work, 7);
-    let r = optimizer::cheapest_periods(file, budget, periods, work);
-    judged(r, rows, found, optimum, budget, periods, work)
-}
-
 // One run, with fresh spaces.
-fn judge_run(
-    file: &[u8],
-    rows: &[u32],
-    found: bool,
-    optimum: &[u32],
-    budget: u64,
-    numbers: usize,
-    counts: &mut [u32],
-) {
-    let mut periods = [0u32; 3];
-    let mut work = [0u32; 1536];
+fn run(file: &[u8], rows: &[u32], optimum: &[u32], budget: u64, room: usize, counts: &mut [u32]) {
+    let mut periods = [7u32; 3];
+    let mut work = [7u32; 1536];
     let k = judge(
         file,
         rows,
-        found,
         optimum,
         budget,
         first_mut(&mut periods, rows.len() / 5),
-        first_mut(&mut work, numbers),
+        first_mut(&mut work, room),
     );
     add(counts, k, 1);
 }
 
-fn judge_runs(
-    seed: &mut u32,
-    file: &[u8],
-    rows: &[u32],
-    found: bool,
-    optimum: &[u32],
-    counts: &mut [u32],
-) {
+// Budget and room for every assignment, and little of the one, the other and both, by numbers 16 and 17.
+fn runs(sequence: &[u32], file: &[u8], rows: &[u32], optimum: &[u32], counts: &mut [u32]) {
     let count = assignments(rows) as u64;
     let much = enough(rows);
-    let few = draw(seed, 0, 8) as u64;
-    let little = draw(seed, tasks_of(rows), 8) as usize;
-    judge_run(file, rows, found, optimum, count, much, counts);
-    judge_run(file, rows, found, optimum, few, much, counts);
-    judge_run(file, rows, found, optimum, count, little, counts);
-    judge_run(file, rows, found, optimum, few, little, counts);
+    let few = draw(sequence, 16, 0, 8) as u64;
+    let little = draw(sequence, 17, (rows.len() / 5 % 4) as u32, 8) as usize;
+    run(file, rows, optimum, count, much, counts);
+    run(file, rows, optimum, few, much, counts);
+    run(file, rows, optimum, count, little, counts);
+    run(file, rows, optimum, few, little, counts);
 }
 
-// One plan with budget and room for every assignment, and with little of the one, the other and both.
-fn judge_plan(seed: &mut u32, file: &[u8], rows: &[u32], optimum: &mut [u32], counts: &mut [u32]) {
+// Sets `optimum` to the best assignment, or to the longest periods; how many assignments there are.
+fn find_optimum(rows: &[u32], optimum: &mut [u32]) -> u32 {
     let count = assignments(rows);
     let best = enumerate(rows, count, optimum);
     assign(rows, lesser(best, wrapping_sub_u32(count, 1)), optimum);
-    judge_runs(seed, file, rows, best < count, optimum, counts);
-    add(counts, 1, 1);
-    add(counts, 2, count);
+    count
 }
 
-fn judge_rows(seed: &mut u32, rows: &[u32], counts: &mut [u32]) {
-    let mut file = [0u8; 2048];
-    let length = build(rows, &mut file);
+fn compare_plan(sequence: &[u32], rows: &[u32], optimum: &mut [u32], counts: &mut [u32]) {
+    let mut file = [0u8; 128];
+    let end = build(rows, &mut file);
+    add(counts, 1, 1);
+    add(counts, 2, find_optimum(rows, optimum));
+    runs(sequence, part(&file, 0, end), rows, optimum, counts);
+}
+
+fn compare_rows(sequence: &[u32], rows: &[u32], counts: &mut [u32]) {
     let mut optimum = [0u32; 3];
-    judge_plan(
-        seed,
-        &file[..length],
+    compare_plan(
+        sequence,
         rows,
         first_mut(&mut optimum, rows.len() / 5),
         counts,
     );
 }
 
-fn judge_drawn(seed: &mut u32, counts: &mut [u32]) {
-    let length = draw_length(seed);
-    let rows = draw_plan(seed);
-    judge_rows(seed, first(&rows, length), counts);
-}
-
-fn judge_many(counts: &mut [u32]) {
-    let mut seed: u32 = 2;
-    let mut k: u32 = 0;
-    while k < 4000 {
-        judge_drawn(&mut seed, counts);
-        k += 1;
-    }
-}
-
-fn report_numbers(counts: &[u32]) {
-    report(b" answers", counts, 3);
-    report(b" 31", counts, 4);
-    report(b" 32", counts, 5);
-    report(b" 33", counts, 6);
-    report(b" 34", counts, 7);
-}
-
-pub(crate) fn run() {
-    let mut counts = [0u32; 8];
-    judge_many(&mut counts);
-    report(b"cheapest periods by enumeration: plans", &counts, 1);
-    report(b" period assignments", &counts, 2);
-    report_numbers(&counts);
-    report(b" differences", &counts, 0);
-    text(b"\n");
+// Compares CHEAPEST with the enumeration over a plan; the seed of the next one.
+pub(crate) fn compare(seed: u32, counts: &mut [u32]) -> u32 {
+    let numbers = sequence(seed);
+    let rows = draw_plan(&numbers);
+    compare_rows(&numbers, first(&rows, draw_length(&numbers)), counts);
+    numbers[17]
 }

@@ -1,23 +1,23 @@
+use super::list::at;
 use libc::STDOUT_FILENO;
 
 pub(crate) fn text(s: &[u8]) {
     io::write_all(STDOUT_FILENO, s);
 }
 
-// A number after a space.
-pub(crate) fn field(n: u32) {
-    wide_field(n as u64);
-}
-
-pub(crate) fn wide_field(n: u64) {
+// A label and a number after it.
+pub(crate) fn field(label: &[u8], n: u64) {
+    text(label);
     text(b" ");
     io::print_decimal(STDOUT_FILENO, n);
 }
 
-pub(crate) fn fields(list: &[u32]) {
+// A label and a list of numbers after it.
+pub(crate) fn fields(label: &[u8], list: &[u32]) {
+    text(label);
     let mut i: usize = 0;
     while i < list.len() {
-        field(list[i]);
+        field(b"", at(list, i) as u64);
         i += 1;
     }
 }

@@ -5,22 +5,10 @@ use Rattle.examples.proofs.print.fields.Statement.{statement}
 use Rattle.examples.proofs.print.fields.Tie as tie
 
 abbrev Inv-loop : tie.InvT-loop
-Inv-loop list i₀ i = i ≤ length list
+Inv-loop label list i₀ t4 i = i ≤ length list
 
 abbrev μ-loop : tie.MeasureT-loop
-μ-loop list i₀ i = length list - i
+μ-loop label list i₀ t4 i = length list - i
 
 pub fields-spec : {M : Type 1} → statement M
-fields-spec =
-    tie.close
-    (tie.spec
-    Inv-loop
-    μ-loop
-    (λ c. search needs)
-    (λ c. search needs)
-    (λ c. search needs)
-    (λ c κs. search needs)
-    (λ c. search needs)
-    (λ c. search needs)
-    (λ c. search needs)
-    (λ c. search needs))
+fields-spec = tie.close (tie.spec Inv-loop μ-loop (λ c κs. search needs) (λ c. search needs) (λ c. search needs) (λ c κs. search needs) (λ c. search needs) (λ c κs. search needs) (λ c. search needs) (λ c. search needs) (λ c. search needs) (λ c. search needs))

@@ -1,0 +1,171 @@
+use super::file::write;
+use super::list::all;
+use super::list::at;
+use super::list::first;
+use super::list::first_mut;
+use super::print::field;
+use super::print::fields;
+use super::print::text;
+use super::words::byte;
+use super::words::number;
+use super::words::numbers;
+use super::words::part;
+use super::words::piece;
+use libc::STDIN_FILENO;
+use std::num::wrapping_sub_usize;
+
+fn name(file: &[u8], task: u32) {
+    text(b" [");
+    text(plan::task_name(file, task));
+    text(b"]");
+}
+
+// NAME's answers for every task number from 0 to one above the last.
+fn names(file: &[u8], tasks: u32) {
+    let mut k: u32 = 0;
+    while k < 18 {
+        if k <= tasks {
+            name(file, k);
+        }
+        k += 1;
+    }
+    if tasks < 17 {
+        name(file, tasks + 1);
+    }
+}
+
+fn refused(number: u32, place: u32) {
+    if number != 0 {
+        field(b" refused", number as u64);
+        field(b"", place as u64);
+    }
+}
+
+fn try_read(file: &[u8]) {
+    let r = plan::read_plan(file);
+    refused(r.number, r.place);
+    field(b"", r.tasks as u64);
+    names(file, r.tasks);
+}
+
+fn show_times(file: &[u8], periods: &[u32], times: &mut [u32]) {
+    let r = response::response_times(file, periods, times);
+    refused(r.number, r.place);
+    field(b" missed", r.missed as u64);
+    field(b" first", r.first as u64);
+    fields(b" times", times);
+}
+
+// TIMES at the periods of the call, in a space of its last number, whose numbers are 7.
+fn try_times(call: &[u8], file: &[u8]) {
+    let mut list = [0u32; 18];
+    let last = wrapping_sub_usize(numbers(call, &mut list), 1);
+    let space = at(&list, last) as usize;
+    let mut times = [7u32; 17];
+    show_times(file, first(&list, last), first_mut(&mut times, space));
+}
+
+// A work space whose numbers were 7.
+fn show_work(work: &[u32]) {
+    if all(work, 7) {
+        text(b" work untouched");
+        return;
+    }
+    if all(work, 0) {
+        text(b" work zero");
+        return;
+    }
+    text(b" work left over");
+}
+
+fn show_cheapest(file: &[u8], budget: u64, periods: &mut [u32], work: &mut [u32]) {
+    let r = optimizer::cheapest_periods(file, budget, periods, work);
+    field(b"", r.number as u64);
+    field(b"", r.place as u64);
+    field(b" cost", r.cost);
+    field(b" rounds", r.rounds);
+    field(b" bound", r.bound);
+    fields(b" periods", periods);
+    show_work(work);
+}
+
+// The number at a word of a call.
+fn given(call: &[u8], k: usize) -> u64 {
+    number(piece(call, b' ', k))
+}
+
+// CHEAPEST with the budget, the space for periods and the room of the call; the numbers of both spaces are 7.
+fn try_cheapest(call: &[u8], file: &[u8]) {
+    let mut periods = [7u32; 17];
+    let mut work = [7u32; 16000];
+    show_cheapest(
+        file,
+        given(call, 3),
+        first_mut(&mut periods, given(call, 5) as usize),
+        first_mut(&mut work, given(call, 7) as usize),
+    );
+}
+
+// The listing of a file, as program timetable writes it, with the budget and the room of the call.
+fn try_list(call: &[u8], file: &[u8]) {
+    let mut work = [7u32; 16000];
+    let mut out = [0u8; 1024];
+    let room = first_mut(&mut work, given(call, 5) as usize);
+    let n = listing::list_plan(file, given(call, 3), room, &mut out);
+    text(b"\n");
+    text(&out[..n]);
+}
+
+fn try_call(call: &[u8], file: &[u8]) {
+    let kind = byte(call, 1);
+    if kind == b'l' {
+        try_list(call, file);
+        return;
+    }
+    if kind == b'r' {
+        try_read(file);
+    }
+    if kind == b't' {
+        try_times(call, file);
+    }
+    if kind == b'c' {
+        try_cheapest(call, file);
+    }
+    text(b"\n");
+}
+
+// A label, a colon, a call, a bar, and the words of its file.
+fn try_example(line: &[u8]) {
+    let rest = piece(line, b':', 1);
+    let mut file = [0u8; 2049];
+    let end = write(piece(rest, b'|', 1), &mut file);
+    text(piece(line, b':', 0));
+    text(b":");
+    try_call(piece(rest, b'|', 0), part(&file, 0, end));
+}
+
+fn try_line(line: &[u8]) {
+    if 0 < line.len() {
+        if byte(line, 0) != b'#' {
+            try_example(line);
+        }
+    }
+}
+
+fn try_lines(lines: &[u8]) {
+    let mut from: usize = 0;
+    let mut i: usize = 0;
+    while i < lines.len() {
+        if lines[i] == b'\n' {
+            try_line(part(lines, from, i));
+            from = i + 1;
+        }
+        i += 1;
+    }
+}
+
+pub(crate) fn run() {
+    let mut lines = [0u8; 16384];
+    let size = io::read_full(STDIN_FILENO, &mut lines);
+    try_lines(&lines[..size]);
+}

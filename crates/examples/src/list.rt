@@ -1,0 +1,59 @@
+use std::num::wrapping_add_u32;
+
+// A number of a list, and 0 past its end.
+pub(crate) fn at(list: &[u32], i: usize) -> u32 {
+    if i < list.len() {
+        return list[i];
+    }
+    0
+}
+
+// Sets a number of a list, if the list has it.
+pub(crate) fn set(list: &mut [u32], i: usize, v: u32) {
+    if i < list.len() {
+        list[i] = v;
+    }
+}
+
+// Adds to a number of a list.
+pub(crate) fn add(list: &mut [u32], i: usize, v: u32) {
+    let before = at(list, i);
+    set(list, i, wrapping_add_u32(before, v));
+}
+
+// The first k numbers of a list, or all that it has.
+pub(crate) fn first(list: &[u32], k: usize) -> &[u32] {
+    if k <= list.len() {
+        return &list[..k];
+    }
+    list
+}
+
+pub(crate) fn first_mut(list: &mut [u32], k: usize) -> &mut [u32] {
+    if k <= list.len() {
+        return &mut list[..k];
+    }
+    list
+}
+
+// Whether every number of a list is v.
+pub(crate) fn all(list: &[u32], v: u32) -> bool {
+    let mut i: usize = 0;
+    while i < list.len() {
+        if list[i] != v {
+            return false;
+        }
+        i += 1;
+    }
+    true
+}
+
+// One of a task's numbers in rows of five: 0 wcet, 1 period_min, 2 period_max, 3 deadline_cap, 4 weight.
+pub(crate) fn column(rows: &[u32], task: usize, k: usize) -> u32 {
+    if task < 16 {
+        if k < 5 {
+            return at(rows, 5 * task + k);
+        }
+    }
+    0
+}
