@@ -3,15 +3,16 @@ use super::list::all;
 use super::list::at;
 use super::list::first;
 use super::list::first_mut;
-use super::print::field;
-use super::print::fields;
+use super::print::labelled;
+use super::print::numbers;
 use super::print::text;
 use super::words::byte;
+use super::words::list_numbers;
 use super::words::number;
-use super::words::numbers;
 use super::words::part;
 use super::words::piece;
 use libc::STDIN_FILENO;
+use std::num::wrapping_add_u32;
 use std::num::wrapping_sub_usize;
 
 fn name(file: &[u8], task: u32) {
@@ -22,44 +23,41 @@ fn name(file: &[u8], task: u32) {
 
 // NAME's answers for every task number from 0 to one above the last.
 fn names(file: &[u8], tasks: u32) {
+    let last = wrapping_add_u32(tasks, 1);
     let mut k: u32 = 0;
     while k < 18 {
-        if k <= tasks {
+        if k <= last {
             name(file, k);
         }
         k += 1;
-    }
-    if tasks < 17 {
-        name(file, tasks + 1);
     }
 }
 
 fn refused(number: u32, place: u32) {
     if number != 0 {
-        field(b" refused", number as u64);
-        field(b"", place as u64);
+        labelled(b" refused|", &[number as u64, place as u64]);
     }
 }
 
 fn try_read(file: &[u8]) {
     let r = plan::read_plan(file);
     refused(r.number, r.place);
-    field(b"", r.tasks as u64);
+    labelled(b"", &[r.tasks as u64]);
     names(file, r.tasks);
 }
 
 fn show_times(file: &[u8], periods: &[u32], times: &mut [u32]) {
     let r = response::response_times(file, periods, times);
     refused(r.number, r.place);
-    field(b" missed", r.missed as u64);
-    field(b" first", r.first as u64);
-    fields(b" times", times);
+    labelled(b" missed| first", &[r.missed as u64, r.first as u64]);
+    text(b" times");
+    numbers(times);
 }
 
 // TIMES at the periods of the call, in a space of its last number, whose numbers are 7.
 fn try_times(call: &[u8], file: &[u8]) {
     let mut list = [0u32; 18];
-    let last = wrapping_sub_usize(numbers(call, &mut list), 1);
+    let last = wrapping_sub_usize(list_numbers(call, &mut list), 1);
     let space = at(&list, last) as usize;
     let mut times = [7u32; 17];
     show_times(file, first(&list, last), first_mut(&mut times, space));
@@ -80,12 +78,12 @@ fn show_work(work: &[u32]) {
 
 fn show_cheapest(file: &[u8], budget: u64, periods: &mut [u32], work: &mut [u32]) {
     let r = optimizer::cheapest_periods(file, budget, periods, work);
-    field(b"", r.number as u64);
-    field(b"", r.place as u64);
-    field(b" cost", r.cost);
-    field(b" rounds", r.rounds);
-    field(b" bound", r.bound);
-    fields(b" periods", periods);
+    labelled(
+        b"|| cost| rounds| bound",
+        &[r.number as u64, r.place as u64, r.cost, r.rounds, r.bound],
+    );
+    text(b" periods");
+    numbers(periods);
     show_work(work);
 }
 
@@ -106,14 +104,21 @@ fn try_cheapest(call: &[u8], file: &[u8]) {
     );
 }
 
+fn show_list(file: &[u8], budget: u64, work: &mut [u32]) {
+    let mut out = [0u8; 1024];
+    let n = listing::list_plan(file, budget, work, &mut out);
+    text(&out[..n]);
+}
+
 // The listing of a file, as program timetable writes it, with the budget and the room of the call.
 fn try_list(call: &[u8], file: &[u8]) {
     let mut work = [7u32; 16000];
-    let mut out = [0u8; 1024];
-    let room = first_mut(&mut work, given(call, 5) as usize);
-    let n = listing::list_plan(file, given(call, 3), room, &mut out);
     text(b"\n");
-    text(&out[..n]);
+    show_list(
+        file,
+        given(call, 3),
+        first_mut(&mut work, given(call, 5) as usize),
+    );
 }
 
 fn try_call(call: &[u8], file: &[u8]) {

@@ -1,14 +1,10 @@
-use super::draw::draw_length;
 use super::draw::draw_periods;
-use super::draw::draw_plan;
-use super::draw::sequence;
-use super::file::build;
 use super::list::add;
 use super::list::at;
 use super::list::column;
 use super::list::first;
 use super::list::first_mut;
-use super::words::part;
+use super::list::tasks;
 use std::num::wrapping_add_u32;
 
 // The work that a task releases at the moment `now`.
@@ -114,39 +110,21 @@ fn agrees(file: &[u8], rows: &[u32], periods: &[u32], times: &mut [u32]) -> bool
         && same_times(rows, periods, times)
 }
 
-// Counts a comparison: 0 differences, 2 period assignments, 3 missed deadlines.
-fn compare_at(file: &[u8], rows: &[u32], periods: &[u32], counts: &mut [u32]) {
+// Counts a comparison: 1 period assignments, 2 missed deadlines, 3 differences.
+fn count(agreed: bool, missed: u32, counts: &mut [u64]) {
+    add(counts, 1, 1);
+    add(counts, 2, missed);
+    add(counts, 3, as_number(!agreed));
+}
+
+fn compare_at(file: &[u8], rows: &[u32], periods: &[u32], counts: &mut [u64]) {
     let mut times = [7u32; 3];
     let agreed = agrees(file, rows, periods, first_mut(&mut times, periods.len()));
-    add(counts, 0, as_number(!agreed));
-    add(counts, 2, 1);
-    add(counts, 3, missed_count(rows, periods));
+    count(agreed, missed_count(rows, periods), counts);
 }
 
-fn compare_drawn(sequence: &[u32], from: usize, file: &[u8], rows: &[u32], counts: &mut [u32]) {
-    let periods = draw_periods(sequence, from, rows);
-    compare_at(file, rows, first(&periods, rows.len() / 5), counts);
-}
-
-// At four period assignments, by numbers 16 to 27.
-fn compare_plan(sequence: &[u32], file: &[u8], rows: &[u32], counts: &mut [u32]) {
-    compare_drawn(sequence, 16, file, rows, counts);
-    compare_drawn(sequence, 19, file, rows, counts);
-    compare_drawn(sequence, 22, file, rows, counts);
-    compare_drawn(sequence, 25, file, rows, counts);
-    add(counts, 1, 1);
-}
-
-fn compare_rows(sequence: &[u32], rows: &[u32], counts: &mut [u32]) {
-    let mut file = [0u8; 128];
-    let end = build(rows, &mut file);
-    compare_plan(sequence, part(&file, 0, end), rows, counts);
-}
-
-// Compares TIMES with the clock over a plan; the seed of the next one.
-pub(crate) fn compare(seed: u32, counts: &mut [u32]) -> u32 {
-    let numbers = sequence(seed);
-    let rows = draw_plan(&numbers);
-    compare_rows(&numbers, first(&rows, draw_length(&numbers)), counts);
-    numbers[27]
+// Compares TIMES with the clock at drawn periods, in run k of four.
+pub(crate) fn compare(sequence: &[u32], k: usize, file: &[u8], rows: &[u32], counts: &mut [u64]) {
+    let periods = draw_periods(sequence, k, rows);
+    compare_at(file, rows, first(&periods, tasks(rows) as usize), counts);
 }

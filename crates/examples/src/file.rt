@@ -1,4 +1,5 @@
-use super::list::first;
+use super::list::at;
+use super::list::tasks;
 use super::words::byte;
 use super::words::is_digit;
 use super::words::number;
@@ -14,66 +15,111 @@ fn put_byte(file: &mut [u8], at: usize, v: u32) {
     }
 }
 
-// A number in four bytes.
-fn put(file: &mut [u8], at: usize, v: u32) {
-    put_byte(file, at, v);
-    put_byte(file, wrapping_add_usize(at, 1), v / 256);
-    put_byte(file, wrapping_add_usize(at, 2), v / 65536);
-    put_byte(file, wrapping_add_usize(at, 3), v / 16777216);
-}
-
-// Numbers in four bytes each.
-fn put_all(list: &[u32], file: &mut [u8], from: usize) {
-    let mut at = from;
-    let mut k: usize = 0;
-    while k < list.len() {
-        put(file, at, list[k]);
-        at = wrapping_add_usize(at, 4);
-        k += 1;
+// A number without its lowest k bytes, of which there are up to three.
+fn without(v: u32, k: usize) -> u32 {
+    if k == 0 {
+        return v;
     }
+    if k == 1 {
+        return v / 256;
+    }
+    if k == 2 {
+        return v / 65536;
+    }
+    v / 16777216
 }
 
-// The header of n tasks, whose rows follow it and whose names follow these; where the file ends.
-fn put_header(tasks: u32, file: &mut [u8]) -> usize {
-    if 16 < tasks {
+// Number k of the header of n tasks, whose rows follow it and whose names follow these.
+fn header(n: u32, k: usize) -> u32 {
+    if 16 < n {
         return 0;
     }
-    let names = 16 + 20 * tasks;
-    let end = 16 + 36 * tasks;
-    put_all(&[1 + 65536 * tasks, 16, names, end], file, 0);
-    end as usize
+    if k == 0 {
+        return 1 + 65536 * n;
+    }
+    if k == 1 {
+        return 16;
+    }
+    if k == 2 {
+        return 16 + 20 * n;
+    }
+    16 + 36 * n
 }
 
-// The plan file of up to three rows, with names A, B and C, over zeros; its length.
+// Number k of the plan file of some rows, whose tasks are called A, B and C.
+fn number_of(rows: &[u32], k: usize) -> u32 {
+    if k < 4 {
+        return header(tasks(rows), k);
+    }
+    let i = k - 4;
+    if i < rows.len() {
+        return at(rows, i);
+    }
+    let j = i - rows.len();
+    if j % 4 == 0 {
+        return (65 + j / 4 % 3) as u32;
+    }
+    0
+}
+
+// Writes the plan file of up to three rows; its length.
 pub(crate) fn build(rows: &[u32], file: &mut [u8]) -> usize {
-    let tasks = rows.len() / 5;
-    if 3 < tasks {
-        return 0;
-    }
-    let names = [65, 0, 0, 0, 66, 0, 0, 0, 67, 0, 0, 0];
-    put_all(rows, file, 16);
-    put_all(first(&names, 4 * tasks), file, 16 + 20 * tasks);
-    put_header(tasks as u32, file)
-}
-
-// A word's bytes behind its first, as a name of sixteen bytes.
-fn put_name(word: &[u8], file: &mut [u8], at: usize) {
+    let end = 16 + 36 * tasks(rows) as usize;
     let mut k: usize = 0;
-    while k < 16 {
-        put_byte(file, wrapping_add_usize(at, k), byte(word, k + 1) as u32);
+    while k < end {
+        put_byte(file, k, without(number_of(rows, k / 4), k % 4));
         k += 1;
     }
+    end
 }
 
-// The twenty bytes before an offset, again and again over a number of bytes.
-fn repeat_row(file: &mut [u8], at: usize, bytes: usize) {
+// How many bytes a word writes.
+fn size(word: &[u8]) -> usize {
+    let kind = byte(word, 0);
+    if kind == b'%' {
+        return 16;
+    }
+    if kind == b'\'' {
+        return 16;
+    }
+    if kind == b'.' {
+        return 1;
+    }
+    if kind == b'*' {
+        return 20 * (number(word) % 128) as usize;
+    }
+    if is_digit(kind) {
+        return 4;
+    }
+    0
+}
+
+// Byte k of what a word writes, which goes to an offset of the file.
+fn byte_of(word: &[u8], k: usize, file: &[u8], to: usize) -> u32 {
+    let kind = byte(word, 0);
+    if kind == b'%' {
+        return without(header(number_u32(word), k / 4), k % 4);
+    }
+    if kind == b'\'' {
+        return byte(word, wrapping_add_usize(k, 1)) as u32;
+    }
+    if kind == b'*' {
+        return byte(file, wrapping_sub_usize(to, 20)) as u32;
+    }
+    without(number_u32(word), k)
+}
+
+// Writes a word at an offset; the offset behind it.
+fn put_word(word: &[u8], file: &mut [u8], from: usize) -> usize {
+    let end = size(word);
     let mut k: usize = 0;
-    while k < bytes {
-        let to = wrapping_add_usize(at, k);
-        let b = byte(file, wrapping_sub_usize(to, 20));
-        put_byte(file, to, b as u32);
+    while k < end {
+        let to = wrapping_add_usize(from, k);
+        let v = byte_of(word, k, file, to);
+        put_byte(file, to, v);
         k += 1;
     }
+    wrapping_add_usize(from, end)
 }
 
 // Where the next word writes, and where the file ends.
@@ -82,47 +128,25 @@ struct Place {
     end: usize,
 }
 
-// Writes a word at an offset; how many bytes it takes.
-fn put_word(word: &[u8], file: &mut [u8], at: usize) -> usize {
+// The place behind a word that is written up to an offset.
+fn moved(word: &[u8], behind: usize, p: Place) -> Place {
     let kind = byte(word, 0);
-    if kind == b'\'' {
-        put_name(word, file, at);
-        return 16;
-    }
-    if kind == b'.' {
-        put_byte(file, at, number_u32(word));
-        return 1;
-    }
-    if kind == b'*' {
-        let bytes = 20 * (number(word) % 128) as usize;
-        repeat_row(file, at, bytes);
-        return bytes;
-    }
-    if is_digit(kind) {
-        put(file, at, number_u32(word));
-        return 4;
-    }
-    0
-}
-
-// A word of a file, as file stdin explains them.
-fn write_word(word: &[u8], file: &mut [u8], p: Place) -> Place {
-    let kind = byte(word, 0);
-    let at = p.at;
     if kind == b'%' {
-        let end = put_header(number_u32(word), file);
-        return Place { at: 16, end };
+        let end = header(number_u32(word), 3) as usize;
+        return Place { at: behind, end };
     }
     if kind == b'@' {
-        let to = number(word) as usize;
-        return Place { at: to, end: p.end };
+        let at = number(word) as usize;
+        return Place { at, end: p.end };
     }
     if kind == b';' {
-        return Place { at, end: at };
+        return Place {
+            at: behind,
+            end: behind,
+        };
     }
-    let bytes = put_word(word, file, at);
     Place {
-        at: wrapping_add_usize(at, bytes),
+        at: behind,
         end: p.end,
     }
 }
@@ -132,13 +156,15 @@ fn write_from(words: &[u8], file: &mut [u8], end: usize) -> usize {
     let mut p = Place { at: 0, end };
     let mut k: usize = 0;
     while k < words.len() {
-        p = write_word(piece(words, b' ', k), file, p);
+        let word = piece(words, b' ', k);
+        let behind = put_word(word, file, p.at);
+        p = moved(word, behind, p);
         k += 1;
     }
     p.end
 }
 
-// The file of some words, over zeros: plan P of document 01 with these changes, or with a header first a plan of their own; its length.
+// The file that words describe, over zeros: changes to plan P of document 01, or a plan of their own that a header begins; its length.
 pub(crate) fn write(words: &[u8], file: &mut [u8]) -> usize {
     if byte(words, 1) == b'%' {
         return write_from(words, file, 0);

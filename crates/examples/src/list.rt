@@ -1,4 +1,4 @@
-use std::num::wrapping_add_u32;
+use std::num::wrapping_add_u64;
 
 // A number of a list, and 0 past its end.
 pub(crate) fn at(list: &[u32], i: usize) -> u32 {
@@ -15,10 +15,11 @@ pub(crate) fn set(list: &mut [u32], i: usize, v: u32) {
     }
 }
 
-// Adds to a number of a list.
-pub(crate) fn add(list: &mut [u32], i: usize, v: u32) {
-    let before = at(list, i);
-    set(list, i, wrapping_add_u32(before, v));
+// Adds to a counter.
+pub(crate) fn add(counts: &mut [u64], k: usize, n: u32) {
+    if k < counts.len() {
+        counts[k] = wrapping_add_u64(counts[k], n as u64);
+    }
 }
 
 // The first k numbers of a list, or all that it has.
@@ -56,4 +57,9 @@ pub(crate) fn column(rows: &[u32], task: usize, k: usize) -> u32 {
         }
     }
     0
+}
+
+// How many tasks rows have, of which there are at most three.
+pub(crate) fn tasks(rows: &[u32]) -> u32 {
+    (rows.len() / 5 % 4) as u32
 }

@@ -1,54 +1,66 @@
 use super::clock;
-use super::list::at;
+use super::draw::draw_length;
+use super::draw::draw_plan;
+use super::draw::sequence;
+use super::file::build;
+use super::list::add;
+use super::list::first;
+use super::list::first_mut;
+use super::list::tasks;
 use super::planner;
-use super::print::field;
+use super::print::labelled;
 use super::print::text;
+use super::words::part;
 
-// Compares TIMES and CHEAPEST over 4,000 plans each.
-fn compare(times: &mut [u32], plans: &mut [u32]) {
-    let mut a: u32 = 1;
-    let mut b: u32 = 2;
-    let mut k: u32 = 0;
-    while k < 4000 {
-        a = clock::compare(a, times);
-        b = planner::compare(b, plans);
+// TIMES at four period assignments, and CHEAPEST in four runs.
+fn compare_runs(sequence: &[u32], file: &[u8], rows: &[u32], optimum: &[u32], counts: &mut [u64]) {
+    let mut k: usize = 0;
+    while k < 4 {
+        clock::compare(sequence, k, file, rows, counts);
+        planner::compare(sequence, k, file, rows, optimum, counts);
         k += 1;
     }
 }
 
-// A counter with its label.
-fn count(label: &[u8], counts: &[u32], k: usize) {
-    field(label, at(counts, k) as u64);
+fn compare_file(sequence: &[u32], file: &[u8], rows: &[u32], counts: &mut [u64]) {
+    let mut space = [0u32; 3];
+    let optimum = first_mut(&mut space, tasks(rows) as usize);
+    add(counts, 5, planner::find_optimum(rows, optimum));
+    compare_runs(sequence, file, rows, optimum, counts);
 }
 
-fn report_times(counts: &[u32]) {
-    count(b"response times by the clock: plans", counts, 1);
-    count(b" period assignments", counts, 2);
-    count(b" missed deadlines", counts, 3);
-    count(b" differences", counts, 0);
-    text(b"\n");
+fn compare_rows(sequence: &[u32], rows: &[u32], counts: &mut [u64]) {
+    let mut file = [0u8; 124];
+    let end = build(rows, &mut file);
+    compare_file(sequence, part(&file, 0, end), rows, counts);
 }
 
-fn report_numbers(counts: &[u32]) {
-    count(b" answers", counts, 3);
-    count(b" 31", counts, 4);
-    count(b" 32", counts, 5);
-    count(b" 33", counts, 6);
-    count(b" 34", counts, 7);
+// Compares over one plan; the seed of the next.
+fn compare_plan(seed: u32, counts: &mut [u64]) -> u32 {
+    let numbers = sequence(seed);
+    let rows = draw_plan(&numbers);
+    compare_rows(&numbers, first(&rows, draw_length(&numbers)), counts);
+    numbers[29]
 }
 
-fn report_plans(counts: &[u32]) {
-    count(b"cheapest periods by enumeration: plans", counts, 1);
-    count(b" period assignments", counts, 2);
-    report_numbers(counts);
-    count(b" differences", counts, 0);
-    text(b"\n");
+fn compare_plans(counts: &mut [u64]) {
+    let mut seed: u32 = 1;
+    let mut k: u32 = 0;
+    while k < 8000 {
+        seed = compare_plan(seed, counts);
+        add(counts, 0, 1);
+        add(counts, 4, 1);
+        k += 1;
+    }
 }
 
 pub(crate) fn run() {
-    let mut times = [0u32; 4];
-    let mut plans = [0u32; 8];
-    compare(&mut times, &mut plans);
-    report_times(&times);
-    report_plans(&plans);
+    let mut counts = [0u64; 12];
+    compare_plans(&mut counts);
+    labelled(
+        b"response times by the clock: plans| period assignments| missed deadlines| differences|
+cheapest periods by enumeration: plans| period assignments| answers| 31| 32| 33| 34| differences",
+        &counts,
+    );
+    text(b"\n");
 }

@@ -1,19 +1,14 @@
 use super::clock::first_missed;
 use super::clock::lesser;
 use super::draw::draw;
-use super::draw::draw_length;
-use super::draw::draw_plan;
-use super::draw::sequence;
 use super::draw::width;
-use super::file::build;
 use super::list::add;
 use super::list::all;
 use super::list::at;
 use super::list::column;
-use super::list::first;
 use super::list::first_mut;
 use super::list::set;
-use super::words::part;
+use super::list::tasks;
 use optimizer::Answer;
 use std::num::wrapping_add_u32;
 use std::num::wrapping_sub_u32;
@@ -133,7 +128,7 @@ fn right_answer(r: Answer, rows: &[u32], optimum: &[u32], periods: &[u32]) -> bo
 
 // The length of a work space with room for every assignment.
 fn enough(rows: &[u32]) -> usize {
-    product(assignments(rows), (rows.len() / 5 % 4) as u32) as usize
+    product(assignments(rows), tasks(rows)) as usize
 }
 
 // Whether the budget or the room is below the number of assignments, as at every stop.
@@ -181,27 +176,36 @@ fn right_spaces(r: Answer, periods: &[u32], work: &[u32]) -> bool {
     r.cost == 0 && all(periods, 7) && all(work, 0)
 }
 
-// Where an answer's number is counted.
+// Where an answer's number is counted; 11 for a difference.
 fn counter(number: u32) -> usize {
     if number == 0 {
-        return 3;
-    }
-    if number == 31 {
-        return 4;
-    }
-    if number == 32 {
-        return 5;
-    }
-    if number == 33 {
         return 6;
     }
-    if number == 34 {
-        return 7;
+    if number < 31 {
+        return 11;
     }
-    0
+    if 34 < number {
+        return 11;
+    }
+    (number - 24) as usize
 }
 
-// The counter of CHEAPEST's answer: 0, that of the differences, unless all of it is right.
+// Whether all of an answer is right.
+fn right(
+    r: Answer,
+    rows: &[u32],
+    optimum: &[u32],
+    budget: u64,
+    periods: &[u32],
+    work: &[u32],
+) -> bool {
+    r.rounds <= budget
+        && r.rounds <= assignments(rows) as u64
+        && right_spaces(r, periods, work)
+        && right_outcome(r, rows, optimum, budget, periods, work.len())
+}
+
+// The counter of CHEAPEST's answer.
 fn judge(
     file: &[u8],
     rows: &[u32],
@@ -211,73 +215,60 @@ fn judge(
     work: &mut [u32],
 ) -> usize {
     let r = optimizer::cheapest_periods(file, budget, periods, work);
-    if r.rounds <= budget
-        && r.rounds <= assignments(rows) as u64
-        && right_spaces(r, periods, work)
-        && right_outcome(r, rows, optimum, budget, periods, work.len())
-    {
+    if right(r, rows, optimum, budget, periods, work) {
         return counter(r.number);
     }
-    0
+    11
 }
 
 // One run, with fresh spaces.
-fn run(file: &[u8], rows: &[u32], optimum: &[u32], budget: u64, room: usize, counts: &mut [u32]) {
+fn judge_run(file: &[u8], rows: &[u32], optimum: &[u32], budget: u64, room: usize) -> usize {
     let mut periods = [7u32; 3];
     let mut work = [7u32; 1536];
-    let k = judge(
+    judge(
         file,
         rows,
         optimum,
         budget,
-        first_mut(&mut periods, rows.len() / 5),
+        first_mut(&mut periods, tasks(rows) as usize),
         first_mut(&mut work, room),
-    );
-    add(counts, k, 1);
+    )
 }
 
-// Budget and room for every assignment, and little of the one, the other and both, by numbers 16 and 17.
-fn runs(sequence: &[u32], file: &[u8], rows: &[u32], optimum: &[u32], counts: &mut [u32]) {
-    let count = assignments(rows) as u64;
-    let much = enough(rows);
-    let few = draw(sequence, 16, 0, 8) as u64;
-    let little = draw(sequence, 17, (rows.len() / 5 % 4) as u32, 8) as usize;
-    run(file, rows, optimum, count, much, counts);
-    run(file, rows, optimum, few, much, counts);
-    run(file, rows, optimum, count, little, counts);
-    run(file, rows, optimum, few, little, counts);
+// A budget for every assignment, or few rounds by number 28.
+fn budget(sequence: &[u32], k: usize, rows: &[u32]) -> u64 {
+    if k % 2 == 0 {
+        return assignments(rows) as u64;
+    }
+    draw(sequence, 28, 0, 8) as u64
 }
 
-// Sets `optimum` to the best assignment, or to the longest periods; how many assignments there are.
-fn find_optimum(rows: &[u32], optimum: &mut [u32]) -> u32 {
+// Room for every assignment, or for few by number 29.
+fn room(sequence: &[u32], k: usize, rows: &[u32]) -> usize {
+    if k < 2 {
+        return enough(rows);
+    }
+    draw(sequence, 29, tasks(rows), 8) as usize
+}
+
+// Compares CHEAPEST with the enumeration in run k of four: with enough budget and room, with little of the one, the other and both.
+pub(crate) fn compare(
+    sequence: &[u32],
+    k: usize,
+    file: &[u8],
+    rows: &[u32],
+    optimum: &[u32],
+    counts: &mut [u64],
+) {
+    let budget = budget(sequence, k, rows);
+    let room = room(sequence, k, rows);
+    add(counts, judge_run(file, rows, optimum, budget, room), 1);
+}
+
+// Sets `optimum` to the best assignment, or to the longest periods where none is schedulable; how many assignments there are.
+pub(crate) fn find_optimum(rows: &[u32], optimum: &mut [u32]) -> u32 {
     let count = assignments(rows);
     let best = enumerate(rows, count, optimum);
     assign(rows, lesser(best, wrapping_sub_u32(count, 1)), optimum);
     count
-}
-
-fn compare_plan(sequence: &[u32], rows: &[u32], optimum: &mut [u32], counts: &mut [u32]) {
-    let mut file = [0u8; 128];
-    let end = build(rows, &mut file);
-    add(counts, 1, 1);
-    add(counts, 2, find_optimum(rows, optimum));
-    runs(sequence, part(&file, 0, end), rows, optimum, counts);
-}
-
-fn compare_rows(sequence: &[u32], rows: &[u32], counts: &mut [u32]) {
-    let mut optimum = [0u32; 3];
-    compare_plan(
-        sequence,
-        rows,
-        first_mut(&mut optimum, rows.len() / 5),
-        counts,
-    );
-}
-
-// Compares CHEAPEST with the enumeration over a plan; the seed of the next one.
-pub(crate) fn compare(seed: u32, counts: &mut [u32]) -> u32 {
-    let numbers = sequence(seed);
-    let rows = draw_plan(&numbers);
-    compare_rows(&numbers, first(&rows, draw_length(&numbers)), counts);
-    numbers[17]
 }

@@ -1,23 +1,31 @@
 use super::list::at;
+use super::words::piece;
 use libc::STDOUT_FILENO;
 
 pub(crate) fn text(s: &[u8]) {
     io::write_all(STDOUT_FILENO, s);
 }
 
-// A label and a number after it.
-pub(crate) fn field(label: &[u8], n: u64) {
-    text(label);
+// A number behind a space.
+fn number(n: u64) {
     text(b" ");
     io::print_decimal(STDOUT_FILENO, n);
 }
 
-// A label and a list of numbers after it.
-pub(crate) fn fields(label: &[u8], list: &[u32]) {
-    text(label);
+pub(crate) fn numbers(list: &[u32]) {
     let mut i: usize = 0;
     while i < list.len() {
-        field(b"", at(list, i) as u64);
+        number(at(list, i) as u64);
+        i += 1;
+    }
+}
+
+// Numbers, each behind its label; bars stand between the labels.
+pub(crate) fn labelled(labels: &[u8], list: &[u64]) {
+    let mut i: usize = 0;
+    while i < list.len() {
+        text(piece(labels, b'|', i));
+        number(list[i]);
         i += 1;
     }
 }

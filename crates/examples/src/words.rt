@@ -87,7 +87,7 @@ fn listed(word: &[u8], list: &mut [u32], n: usize) -> usize {
 }
 
 // The numbers among the words of a text: how many there are.
-pub(crate) fn numbers(text: &[u8], list: &mut [u32]) -> usize {
+pub(crate) fn list_numbers(text: &[u8], list: &mut [u32]) -> usize {
     let mut n: usize = 0;
     let mut k: usize = 0;
     while k < text.len() {
