@@ -1,6 +1,7 @@
 use super::draw::draw_periods;
 use super::list::add;
 use super::list::at;
+use super::list::begins;
 use super::list::column;
 use super::list::first;
 use super::list::first_mut;
@@ -51,76 +52,65 @@ fn finish(rows: &[u32], periods: &[u32], task: usize) -> u32 {
     0
 }
 
-// Whether a task that is there misses its deadline.
-fn misses(rows: &[u32], periods: &[u32], task: usize) -> bool {
-    if task < periods.len() {
-        return finish(rows, periods, task) == 0;
+// The response times of up to three tasks by the clock.
+fn times(rows: &[u32], periods: &[u32]) -> [u32; 3] {
+    [
+        finish(rows, periods, 0),
+        finish(rows, periods, 1),
+        finish(rows, periods, 2),
+    ]
+}
+
+// 1 for a task that is there and misses its deadline, else 0.
+fn misses(rows: &[u32], periods: &[u32], task: usize) -> u32 {
+    if column(rows, task, 0) == 0 {
+        return 0;
     }
-    false
+    if finish(rows, periods, task) == 0 {
+        return 1;
+    }
+    0
 }
 
 // The first of up to three tasks that misses its deadline, or 0.
 pub(crate) fn first_missed(rows: &[u32], periods: &[u32]) -> u32 {
-    if misses(rows, periods, 0) {
+    if misses(rows, periods, 0) == 1 {
         return 1;
     }
-    if misses(rows, periods, 1) {
+    if misses(rows, periods, 1) == 1 {
         return 2;
     }
-    if misses(rows, periods, 2) {
+    if misses(rows, periods, 2) == 1 {
         return 3;
     }
     0
 }
 
-fn as_number(b: bool) -> u32 {
-    if b {
-        return 1;
-    }
-    0
-}
-
 fn missed_count(rows: &[u32], periods: &[u32]) -> u32 {
-    let a = as_number(misses(rows, periods, 0));
-    let b = as_number(misses(rows, periods, 1));
-    let c = as_number(misses(rows, periods, 2));
-    wrapping_add_u32(a, wrapping_add_u32(b, c))
-}
-
-fn same_time(rows: &[u32], periods: &[u32], times: &[u32], task: usize) -> bool {
-    if task < periods.len() {
-        return at(times, task) == finish(rows, periods, task);
-    }
-    true
-}
-
-fn same_times(rows: &[u32], periods: &[u32], times: &[u32]) -> bool {
-    same_time(rows, periods, times, 0)
-        && same_time(rows, periods, times, 1)
-        && same_time(rows, periods, times, 2)
+    wrapping_add_u32(
+        misses(rows, periods, 0),
+        wrapping_add_u32(misses(rows, periods, 1), misses(rows, periods, 2)),
+    )
 }
 
 // Whether TIMES answers what the clock says, at one period assignment.
-fn agrees(file: &[u8], rows: &[u32], periods: &[u32], times: &mut [u32]) -> bool {
-    let r = response::response_times(file, periods, times);
+fn agrees(file: &[u8], rows: &[u32], periods: &[u32], space: &mut [u32]) -> bool {
+    let r = response::response_times(file, periods, space);
     r.number == 0
         && r.place == 0
         && r.missed == missed_count(rows, periods)
         && r.first == first_missed(rows, periods)
-        && same_times(rows, periods, times)
+        && begins(&times(rows, periods), space)
 }
 
 // Counts a comparison: 1 period assignments, 2 missed deadlines, 3 differences.
-fn count(agreed: bool, missed: u32, counts: &mut [u64]) {
-    add(counts, 1, 1);
-    add(counts, 2, missed);
-    add(counts, 3, as_number(!agreed));
-}
-
 fn compare_at(file: &[u8], rows: &[u32], periods: &[u32], counts: &mut [u64]) {
-    let mut times = [7u32; 3];
-    let agreed = agrees(file, rows, periods, first_mut(&mut times, periods.len()));
-    count(agreed, missed_count(rows, periods), counts);
+    let mut space = [7u32; 3];
+    add(counts, 1, 1);
+    add(counts, 2, missed_count(rows, periods));
+    if !agrees(file, rows, periods, first_mut(&mut space, periods.len())) {
+        add(counts, 3, 1);
+    }
 }
 
 // Compares TIMES with the clock at drawn periods, in run k of four.

@@ -49,6 +49,18 @@ pub(crate) fn all(list: &[u32], v: u32) -> bool {
     true
 }
 
+// Whether a list begins with another.
+pub(crate) fn begins(list: &[u32], with: &[u32]) -> bool {
+    let mut i: usize = 0;
+    while i < with.len() {
+        if at(list, i) != at(with, i) {
+            return false;
+        }
+        i += 1;
+    }
+    true
+}
+
 // One of a task's numbers in rows of five: 0 wcet, 1 period_min, 2 period_max, 3 deadline_cap, 4 weight.
 pub(crate) fn column(rows: &[u32], task: usize, k: usize) -> u32 {
     if task < 16 {

@@ -5,8 +5,6 @@ use super::draw::sequence;
 use super::file::build;
 use super::list::add;
 use super::list::first;
-use super::list::first_mut;
-use super::list::tasks;
 use super::planner;
 use super::print::labelled;
 use super::print::text;
@@ -23,10 +21,9 @@ fn compare_runs(sequence: &[u32], file: &[u8], rows: &[u32], optimum: &[u32], co
 }
 
 fn compare_file(sequence: &[u32], file: &[u8], rows: &[u32], counts: &mut [u64]) {
-    let mut space = [0u32; 3];
-    let optimum = first_mut(&mut space, tasks(rows) as usize);
-    add(counts, 5, planner::find_optimum(rows, optimum));
-    compare_runs(sequence, file, rows, optimum, counts);
+    let optimum = planner::optimum(rows);
+    compare_runs(sequence, file, rows, &optimum, counts);
+    add(counts, 5, planner::assignments(rows));
 }
 
 fn compare_rows(sequence: &[u32], rows: &[u32], counts: &mut [u64]) {

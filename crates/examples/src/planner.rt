@@ -1,3 +1,5 @@
+ghost use mathlib.Core.Path.{_≡_};
+ghost use lib.ListN.{length};
 use super::clock::first_missed;
 use super::clock::lesser;
 use super::draw::draw;
@@ -5,13 +7,12 @@ use super::draw::width;
 use super::list::add;
 use super::list::all;
 use super::list::at;
+use super::list::begins;
 use super::list::column;
 use super::list::first_mut;
-use super::list::set;
 use super::list::tasks;
 use optimizer::Answer;
 use std::num::wrapping_add_u32;
-use std::num::wrapping_sub_u32;
 
 // The product of two small numbers.
 fn product(a: u32, b: u32) -> u32 {
@@ -23,35 +24,27 @@ fn product(a: u32, b: u32) -> u32 {
     0
 }
 
-fn quotient(a: u32, b: u32) -> u32 {
-    if b == 0 {
-        return 0;
-    }
-    a / b
-}
-
-fn remainder(a: u32, b: u32) -> u32 {
-    if b == 0 {
-        return 0;
-    }
-    a % b
-}
-
 // How many period assignments up to three tasks have.
-fn assignments(rows: &[u32]) -> u32 {
+pub(crate) fn assignments(rows: &[u32]) -> u32 {
     product(width(rows, 0), product(width(rows, 1), width(rows, 2)))
 }
 
-fn set_period(rows: &[u32], task: usize, step: u32, periods: &mut [u32]) {
-    set(periods, task, wrapping_add_u32(column(rows, task, 1), step));
+// Assignment k of 512: each period one of eight from its lower bound on, the last task's counting fastest.
+fn assignment(rows: &[u32], k: u32) -> [u32; 3]
+    ensures { λ r. ⌜ length r ≡ 3 ⌝ }
+{
+    [
+        wrapping_add_u32(column(rows, 0, 1), k / 64 % 8),
+        wrapping_add_u32(column(rows, 1, 1), k / 8 % 8),
+        wrapping_add_u32(column(rows, 2, 1), k % 8),
+    ]
 }
 
-// Assignment number k, from 0 on, the last task's period counting fastest.
-fn assign(rows: &[u32], k: u32, periods: &mut [u32]) {
-    let above = quotient(k, width(rows, 2));
-    set_period(rows, 0, quotient(above, width(rows, 1)), periods);
-    set_period(rows, 1, remainder(above, width(rows, 1)), periods);
-    set_period(rows, 2, remainder(k, width(rows, 2)), periods);
+// The longest periods.
+fn longest(rows: &[u32]) -> [u32; 3]
+    ensures { λ r. ⌜ length r ≡ 3 ⌝ }
+{
+    [column(rows, 0, 2), column(rows, 1, 2), column(rows, 2, 2)]
 }
 
 fn cost(rows: &[u32], periods: &[u32]) -> u32 {
@@ -61,28 +54,49 @@ fn cost(rows: &[u32], periods: &[u32]) -> u32 {
     wrapping_add_u32(a, wrapping_add_u32(b, c))
 }
 
-// Whether periods are schedulable and cost less than the best so far.
-fn improves(rows: &[u32], periods: &[u32], least: u32) -> bool {
-    if first_missed(rows, periods) == 0 {
-        return cost(rows, periods) < least;
-    }
-    false
+// Whether periods are at most others.
+fn within(periods: &[u32], longest: &[u32]) -> bool {
+    at(periods, 0) <= at(longest, 0)
+        && at(periods, 1) <= at(longest, 1)
+        && at(periods, 2) <= at(longest, 2)
 }
 
-// The number of the cheapest schedulable assignment, the first of equal cost; `count` where there is none.
-fn enumerate(rows: &[u32], count: u32, periods: &mut [u32]) -> u32 {
-    let mut best = count;
+// The cost of assignment k where it is within the bounds and schedulable, and else more than any.
+fn cost_of(rows: &[u32], k: u32) -> u32 {
+    let periods = assignment(rows, k);
+    if within(&periods, &longest(rows)) {
+        if first_missed(rows, &periods) == 0 {
+            return cost(rows, &periods);
+        }
+    }
+    4294967295
+}
+
+// The number of the cheapest assignment, the first of equal cost; 512 where none is schedulable.
+fn enumerate(rows: &[u32]) -> u32 {
+    let mut best: u32 = 512;
     let mut least: u32 = 4294967295;
     let mut k: u32 = 0;
-    while k < count {
-        assign(rows, k, periods);
-        if improves(rows, periods, least) {
+    while k < 512 {
+        let cost = cost_of(rows, k);
+        if cost < least {
             best = k;
-            least = cost(rows, periods);
+            least = cost;
         }
         k += 1;
     }
     best
+}
+
+// The cheapest periods, or the longest where none are schedulable.
+pub(crate) fn optimum(rows: &[u32]) -> [u32; 3]
+    ensures { λ r. ⌜ length r ≡ 3 ⌝ }
+{
+    let best = enumerate(rows);
+    if best < 512 {
+        return assignment(rows, best);
+    }
+    longest(rows)
 }
 
 // Whether a task's wcet exceeds its longest period or its cap.
@@ -104,26 +118,31 @@ fn first_alone(rows: &[u32]) -> u32 {
     0
 }
 
-// Nothing is schedulable: 31 or 32 with its place, at the longest periods.
-fn right_refusal(r: Answer, rows: &[u32], longest: &[u32]) -> bool {
+// The number and place of plans of which nothing is schedulable.
+fn right_number(r: Answer, rows: &[u32]) -> bool {
     let task = first_alone(rows);
     if task != 0 {
         return r.number == 31 && r.place == task;
     }
-    r.number == 32 && r.place == first_missed(rows, longest)
+    r.number == 32 && r.place == first_missed(rows, &longest(rows))
 }
 
-fn same(a: &[u32], b: &[u32], i: usize) -> bool {
-    at(a, i) == at(b, i)
+// Nothing is schedulable, and both spaces, whose numbers were 7, are untouched.
+fn right_refusal(r: Answer, rows: &[u32], periods: &[u32], work: &[u32]) -> bool {
+    right_number(r, rows)
+        && r.cost == 0
+        && r.rounds == 0
+        && r.bound == 0
+        && all(periods, 7)
+        && all(work, 7)
 }
 
-fn right_answer(r: Answer, rows: &[u32], optimum: &[u32], periods: &[u32]) -> bool {
+fn right_answer(r: Answer, rows: &[u32], optimum: &[u32], periods: &[u32], work: &[u32]) -> bool {
     r.place == 0
         && r.cost == cost(rows, optimum) as u64
         && r.bound == 0
-        && same(periods, optimum, 0)
-        && same(periods, optimum, 1)
-        && same(periods, optimum, 2)
+        && begins(optimum, periods)
+        && all(work, 0)
 }
 
 // The length of a work space with room for every assignment.
@@ -139,41 +158,35 @@ fn is_short(rows: &[u32], budget: u64, room: usize) -> bool {
     room < enough(rows)
 }
 
-// A stop's bound is at most the least cost.
-fn right_stop(r: Answer, least: u32, budget: u64) -> bool {
-    if r.number == 33 {
-        return r.place == 0 && r.bound <= least as u64 && r.rounds == budget;
+// A stop: 33, at the budget, or 34, with a bound of at most the least cost.
+fn right_stop(r: Answer, least: u32, budget: u64, periods: &[u32], work: &[u32]) -> bool {
+    if r.number == 33 && r.rounds != budget {
+        return false;
     }
-    r.number == 34 && r.place == 0 && r.bound <= least as u64
+    32 < r.number
+        && r.place == 0
+        && r.cost == 0
+        && r.bound <= least as u64
+        && all(periods, 7)
+        && all(work, 0)
 }
 
-// Whether an answer is that of the enumeration, whose `optimum` is the best assignment, or the longest periods where none is schedulable.
+// Whether an answer is that of the enumeration.
 fn right_outcome(
     r: Answer,
     rows: &[u32],
     optimum: &[u32],
     budget: u64,
     periods: &[u32],
-    room: usize,
+    work: &[u32],
 ) -> bool {
     if first_missed(rows, optimum) != 0 {
-        return right_refusal(r, rows, optimum);
+        return right_refusal(r, rows, periods, work);
     }
     if r.number == 0 {
-        return right_answer(r, rows, optimum, periods);
+        return right_answer(r, rows, optimum, periods, work);
     }
-    is_short(rows, budget, room) && right_stop(r, cost(rows, optimum), budget)
-}
-
-// Both spaces, whose numbers were 7.
-fn right_spaces(r: Answer, periods: &[u32], work: &[u32]) -> bool {
-    if r.number == 0 {
-        return all(work, 0);
-    }
-    if r.number < 33 {
-        return r.cost == 0 && r.rounds == 0 && r.bound == 0 && all(periods, 7) && all(work, 7);
-    }
-    r.cost == 0 && all(periods, 7) && all(work, 0)
+    is_short(rows, budget, work.len()) && right_stop(r, cost(rows, optimum), budget, periods, work)
 }
 
 // Where an answer's number is counted; 11 for a difference.
@@ -201,8 +214,7 @@ fn right(
 ) -> bool {
     r.rounds <= budget
         && r.rounds <= assignments(rows) as u64
-        && right_spaces(r, periods, work)
-        && right_outcome(r, rows, optimum, budget, periods, work.len())
+        && right_outcome(r, rows, optimum, budget, periods, work)
 }
 
 // The counter of CHEAPEST's answer.
@@ -263,12 +275,4 @@ pub(crate) fn compare(
     let budget = budget(sequence, k, rows);
     let room = room(sequence, k, rows);
     add(counts, judge_run(file, rows, optimum, budget, room), 1);
-}
-
-// Sets `optimum` to the best assignment, or to the longest periods where none is schedulable; how many assignments there are.
-pub(crate) fn find_optimum(rows: &[u32], optimum: &mut [u32]) -> u32 {
-    let count = assignments(rows);
-    let best = enumerate(rows, count, optimum);
-    assign(rows, lesser(best, wrapping_sub_u32(count, 1)), optimum);
-    count
 }
