@@ -12,6 +12,7 @@ use super::words::number;
 use super::words::part;
 use super::words::piece;
 use libc::STDIN_FILENO;
+use optimizer::Answer;
 use std::num::wrapping_add_u32;
 use std::num::wrapping_sub_usize;
 
@@ -49,8 +50,7 @@ fn try_read(file: &[u8]) {
 fn show_times(file: &[u8], periods: &[u32], times: &mut [u32]) {
     let r = response::response_times(file, periods, times);
     refused(r.number, r.place);
-    labelled(b" missed| first", &[r.missed as u64, r.first as u64]);
-    text(b" times");
+    labelled(b" missed| first| times", &[r.missed as u64, r.first as u64]);
     numbers(times);
 }
 
@@ -76,13 +76,15 @@ fn show_work(work: &[u32]) {
     text(b" work left over");
 }
 
-fn show_cheapest(file: &[u8], budget: u64, periods: &mut [u32], work: &mut [u32]) {
-    let r = optimizer::cheapest_periods(file, budget, periods, work);
+fn show_answer(r: Answer) {
     labelled(
-        b"|| cost| rounds| bound",
+        b"|| cost| rounds| bound| periods",
         &[r.number as u64, r.place as u64, r.cost, r.rounds, r.bound],
     );
-    text(b" periods");
+}
+
+fn show_cheapest(file: &[u8], budget: u64, periods: &mut [u32], work: &mut [u32]) {
+    show_answer(optimizer::cheapest_periods(file, budget, periods, work));
     numbers(periods);
     show_work(work);
 }

@@ -103,18 +103,17 @@ fn agrees(file: &[u8], rows: &[u32], periods: &[u32], space: &mut [u32]) -> bool
         && begins(&times(rows, periods), space)
 }
 
-// Counts a comparison: 1 period assignments, 2 missed deadlines, 3 differences.
 fn compare_at(file: &[u8], rows: &[u32], periods: &[u32], counts: &mut [u64]) {
     let mut space = [7u32; 3];
-    add(counts, 1, 1);
     add(counts, 2, missed_count(rows, periods));
     if !agrees(file, rows, periods, first_mut(&mut space, periods.len())) {
         add(counts, 3, 1);
     }
 }
 
-// Compares TIMES with the clock at drawn periods, in run k of four.
+// Compares TIMES with the clock at drawn periods, in run k of four; counts 1 period assignments, 2 missed deadlines, 3 differences.
 pub(crate) fn compare(sequence: &[u32], k: usize, file: &[u8], rows: &[u32], counts: &mut [u64]) {
     let periods = draw_periods(sequence, k, rows);
+    add(counts, 1, 1);
     compare_at(file, rows, first(&periods, tasks(rows) as usize), counts);
 }

@@ -7,7 +7,6 @@ use super::list::add;
 use super::list::first;
 use super::planner;
 use super::print::labelled;
-use super::print::text;
 use super::words::part;
 
 // TIMES at four period assignments, and CHEAPEST in four runs.
@@ -56,8 +55,8 @@ pub(crate) fn run() {
     compare_plans(&mut counts);
     labelled(
         b"response times by the clock: plans| period assignments| missed deadlines| differences|
-cheapest periods by enumeration: plans| period assignments| answers| 31| 32| 33| 34| differences",
+cheapest periods by enumeration: plans| period assignments| answers| 31| 32| 33| 34| differences|
+",
         &counts,
     );
-    text(b"\n");
 }

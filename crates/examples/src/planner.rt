@@ -118,23 +118,26 @@ fn first_alone(rows: &[u32]) -> u32 {
     0
 }
 
-// The number and place of plans of which nothing is schedulable.
-fn right_number(r: Answer, rows: &[u32]) -> bool {
+// Both spaces, whose numbers were 7, behind a call without an answer.
+fn unanswered(cost: u64, periods: &[u32], work: &[u32], left: u32) -> bool {
+    cost == 0 && all(periods, 7) && all(work, left)
+}
+
+// 31 at the first task that is infeasible alone, or 32 at the first that misses its deadline at the longest periods.
+fn right_place(r: Answer, rows: &[u32], missed: u32) -> bool {
     let task = first_alone(rows);
     if task != 0 {
         return r.number == 31 && r.place == task;
     }
-    r.number == 32 && r.place == first_missed(rows, &longest(rows))
+    r.number == 32 && r.place == missed
 }
 
-// Nothing is schedulable, and both spaces, whose numbers were 7, are untouched.
-fn right_refusal(r: Answer, rows: &[u32], periods: &[u32], work: &[u32]) -> bool {
-    right_number(r, rows)
-        && r.cost == 0
+// A refusal: nothing is schedulable, and both spaces are untouched.
+fn right_refusal(r: Answer, rows: &[u32], missed: u32, periods: &[u32], work: &[u32]) -> bool {
+    right_place(r, rows, missed)
         && r.rounds == 0
         && r.bound == 0
-        && all(periods, 7)
-        && all(work, 7)
+        && unanswered(r.cost, periods, work, 7)
 }
 
 fn right_answer(r: Answer, rows: &[u32], optimum: &[u32], periods: &[u32], work: &[u32]) -> bool {
@@ -160,19 +163,20 @@ fn is_short(rows: &[u32], budget: u64, room: usize) -> bool {
 
 // A stop: 33, at the budget, or 34, with a bound of at most the least cost.
 fn right_stop(r: Answer, least: u32, budget: u64, periods: &[u32], work: &[u32]) -> bool {
-    if r.number == 33 && r.rounds != budget {
-        return false;
+    if r.number == 33 {
+        if r.rounds != budget {
+            return false;
+        }
     }
-    32 < r.number
-        && r.place == 0
-        && r.cost == 0
-        && r.bound <= least as u64
-        && all(periods, 7)
-        && all(work, 0)
+    32 < r.number && r.place == 0 && r.bound <= least as u64 && unanswered(r.cost, periods, work, 0)
 }
 
-// Whether an answer is that of the enumeration.
-fn right_outcome(
+fn right_rounds(rounds: u64, rows: &[u32], budget: u64) -> bool {
+    rounds <= budget && rounds <= assignments(rows) as u64
+}
+
+// Whether all of an answer is that of the enumeration.
+fn right(
     r: Answer,
     rows: &[u32],
     optimum: &[u32],
@@ -180,8 +184,12 @@ fn right_outcome(
     periods: &[u32],
     work: &[u32],
 ) -> bool {
-    if first_missed(rows, optimum) != 0 {
-        return right_refusal(r, rows, periods, work);
+    let missed = first_missed(rows, optimum);
+    if missed != 0 {
+        return right_refusal(r, rows, missed, periods, work);
+    }
+    if !right_rounds(r.rounds, rows, budget) {
+        return false;
     }
     if r.number == 0 {
         return right_answer(r, rows, optimum, periods, work);
@@ -201,20 +209,6 @@ fn counter(number: u32) -> usize {
         return 11;
     }
     (number - 24) as usize
-}
-
-// Whether all of an answer is right.
-fn right(
-    r: Answer,
-    rows: &[u32],
-    optimum: &[u32],
-    budget: u64,
-    periods: &[u32],
-    work: &[u32],
-) -> bool {
-    r.rounds <= budget
-        && r.rounds <= assignments(rows) as u64
-        && right_outcome(r, rows, optimum, budget, periods, work)
 }
 
 // The counter of CHEAPEST's answer.

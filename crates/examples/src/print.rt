@@ -20,7 +20,7 @@ pub(crate) fn numbers(list: &[u32]) {
     }
 }
 
-// Numbers, each behind its label; bars stand between the labels.
+// Numbers, each behind its label, and one more label; bars stand between the labels.
 pub(crate) fn labelled(labels: &[u8], list: &[u64]) {
     let mut i: usize = 0;
     while i < list.len() {
@@ -28,4 +28,5 @@ pub(crate) fn labelled(labels: &[u8], list: &[u64]) {
         number(list[i]);
         i += 1;
     }
+    text(piece(labels, b'|', i));
 }
