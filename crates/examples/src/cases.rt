@@ -1,20 +1,20 @@
+ghost use mathlib.Core.Path.{_≡_};
+ghost use lib.ListN.{length};
 use super::file::write;
 use super::list::all;
-use super::list::at;
 use super::list::first;
 use super::list::first_mut;
 use super::print::labelled;
 use super::print::numbers;
 use super::print::text;
 use super::words::byte;
-use super::words::list_numbers;
 use super::words::number;
+use super::words::number_u32;
 use super::words::part;
 use super::words::piece;
 use libc::STDIN_FILENO;
 use optimizer::Answer;
 use std::num::wrapping_add_u32;
-use std::num::wrapping_sub_usize;
 
 fn name(file: &[u8], task: u32) {
     text(b" [");
@@ -54,13 +54,33 @@ fn show_times(file: &[u8], periods: &[u32], times: &mut [u32]) {
     numbers(times);
 }
 
-// TIMES at the periods of the call, in a space of its last number, whose numbers are 7.
+// The number at a word of a call.
+fn given(call: &[u8], k: usize) -> u64 {
+    number(piece(call, b' ', k))
+}
+
+// The numbers from word 7 of a call on.
+fn listed(call: &[u8]) -> [u32; 17]
+    ensures { λ r. ⌜ length r ≡ 17 ⌝ }
+{
+    let mut list = [0u32; 17];
+    let mut k: usize = 0;
+    while k < 17 {
+        list[k] = number_u32(piece(call, b' ', k + 7));
+        k += 1;
+    }
+    list
+}
+
+// TIMES with the space and the periods of the call; the numbers of the space are 7.
 fn try_times(call: &[u8], file: &[u8]) {
-    let mut list = [0u32; 18];
-    let last = wrapping_sub_usize(list_numbers(call, &mut list), 1);
-    let space = at(&list, last) as usize;
+    let list = listed(call);
     let mut times = [7u32; 17];
-    show_times(file, first(&list, last), first_mut(&mut times, space));
+    show_times(
+        file,
+        first(&list, given(call, 5) as usize),
+        first_mut(&mut times, given(call, 3) as usize),
+    );
 }
 
 // A work space whose numbers were 7.
@@ -87,11 +107,6 @@ fn show_cheapest(file: &[u8], budget: u64, periods: &mut [u32], work: &mut [u32]
     show_answer(optimizer::cheapest_periods(file, budget, periods, work));
     numbers(periods);
     show_work(work);
-}
-
-// The number at a word of a call.
-fn given(call: &[u8], k: usize) -> u64 {
-    number(piece(call, b' ', k))
 }
 
 // CHEAPEST with the budget, the space for periods and the room of the call; the numbers of both spaces are 7.

@@ -52,61 +52,79 @@ fn finish(rows: &[u32], periods: &[u32], task: usize) -> u32 {
     0
 }
 
-// The response times of up to three tasks by the clock.
-fn times(rows: &[u32], periods: &[u32]) -> [u32; 3] {
+// A task's flag if it is there and misses its deadline, else 0.
+fn missed_flag(rows: &[u32], periods: &[u32], task: usize, flag: u32) -> u32 {
+    if column(rows, task, 0) == 0 {
+        return 0;
+    }
+    if finish(rows, periods, task) == 0 {
+        return flag;
+    }
+    0
+}
+
+// The flags 1, 2 and 4 of the tasks that miss their deadlines.
+fn missed(rows: &[u32], periods: &[u32]) -> u32 {
+    missed_flag(rows, periods, 0, 1)
+        | missed_flag(rows, periods, 1, 2)
+        | missed_flag(rows, periods, 2, 4)
+}
+
+// The first task that has its flag, or 0.
+pub(crate) fn first_flag(flags: u32) -> u32 {
+    if flags == 0 {
+        return 0;
+    }
+    if flags % 2 == 1 {
+        return 1;
+    }
+    if flags == 4 {
+        return 3;
+    }
+    2
+}
+
+// The first of up to three tasks that misses its deadline, or 0.
+pub(crate) fn first_missed(rows: &[u32], periods: &[u32]) -> u32 {
+    first_flag(missed(rows, periods))
+}
+
+fn missed_count(rows: &[u32], periods: &[u32]) -> u32 {
+    u32::count_ones(missed(rows, periods))
+}
+
+// What TIMES is to answer: number, place, missed, first and the response times.
+fn expected(rows: &[u32], periods: &[u32]) -> [u32; 7] {
     [
+        0,
+        0,
+        missed_count(rows, periods),
+        first_missed(rows, periods),
         finish(rows, periods, 0),
         finish(rows, periods, 1),
         finish(rows, periods, 2),
     ]
 }
 
-// 1 for a task that is there and misses its deadline, else 0.
-fn misses(rows: &[u32], periods: &[u32], task: usize) -> u32 {
-    if column(rows, task, 0) == 0 {
-        return 0;
-    }
-    if finish(rows, periods, task) == 0 {
-        return 1;
-    }
-    0
-}
-
-// The first of up to three tasks that misses its deadline, or 0.
-pub(crate) fn first_missed(rows: &[u32], periods: &[u32]) -> u32 {
-    if misses(rows, periods, 0) == 1 {
-        return 1;
-    }
-    if misses(rows, periods, 1) == 1 {
-        return 2;
-    }
-    if misses(rows, periods, 2) == 1 {
-        return 3;
-    }
-    0
-}
-
-fn missed_count(rows: &[u32], periods: &[u32]) -> u32 {
-    wrapping_add_u32(
-        misses(rows, periods, 0),
-        wrapping_add_u32(misses(rows, periods, 1), misses(rows, periods, 2)),
-    )
-}
-
-// Whether TIMES answers what the clock says, at one period assignment.
-fn agrees(file: &[u8], rows: &[u32], periods: &[u32], space: &mut [u32]) -> bool {
-    let r = response::response_times(file, periods, space);
-    r.number == 0
-        && r.place == 0
-        && r.missed == missed_count(rows, periods)
-        && r.first == first_missed(rows, periods)
-        && begins(&times(rows, periods), space)
+// What it answers.
+fn answered(file: &[u8], periods: &[u32], times: &mut [u32]) -> [u32; 7] {
+    let r = response::response_times(file, periods, times);
+    [
+        r.number,
+        r.place,
+        r.missed,
+        r.first,
+        at(times, 0),
+        at(times, 1),
+        at(times, 2),
+    ]
 }
 
 fn compare_at(file: &[u8], rows: &[u32], periods: &[u32], counts: &mut [u64]) {
-    let mut space = [7u32; 3];
+    let mut times = [7u32; 3];
+    let answer = answered(file, periods, first_mut(&mut times, periods.len()));
     add(counts, 2, missed_count(rows, periods));
-    if !agrees(file, rows, periods, first_mut(&mut space, periods.len())) {
+    if !begins(&expected(rows, periods), &answer) {
         add(counts, 3, 1);
     }
 }

@@ -32,9 +32,14 @@ pub(crate) fn draw(sequence: &[u32], k: usize, least: u32, count: u32) -> u32 {
     wrapping_add_u32(least, at(sequence, k) / 65536 % count)
 }
 
-// Number k of rows of three small tasks: wcet 1 to 4, at most eight periods each, caps 1 to 24, weights 0 to 3.
+// One, two or three tasks, by number 15.
+fn draw_tasks(sequence: &[u32]) -> usize {
+    draw(sequence, 15, 1, 3) as usize
+}
+
+// Number k of rows of small tasks: wcet 1 to 4, at most eight periods each, caps 1 to 24, weights 0 to 3.
 fn draw_number(sequence: &[u32], k: usize) -> u32 {
-    if 15 <= k {
+    if draw_tasks(sequence) <= k / 5 {
         return 0;
     }
     if k % 5 == 2 {
@@ -49,7 +54,7 @@ fn draw_number(sequence: &[u32], k: usize) -> u32 {
     draw(sequence, k, 1, 4)
 }
 
-// Three small tasks, by numbers 0 to 14.
+// Rows of up to three tasks, by numbers 0 to 14.
 pub(crate) fn draw_plan(sequence: &[u32]) -> [u32; 15]
     ensures { λ r. ⌜ length r ≡ 15 ⌝ }
 {
@@ -60,11 +65,6 @@ pub(crate) fn draw_plan(sequence: &[u32]) -> [u32; 15]
         k += 1;
     }
     rows
-}
-
-// The length of the rows of one, two or three tasks, by number 15.
-pub(crate) fn draw_length(sequence: &[u32]) -> usize {
-    5 * (at(sequence, 15) / 65536 % 3 + 1) as usize
 }
 
 // How many periods a task may have; 1 for a task that is not there.

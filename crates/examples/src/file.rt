@@ -1,7 +1,6 @@
 use super::list::at;
 use super::list::tasks;
 use super::words::byte;
-use super::words::is_digit;
 use super::words::number;
 use super::words::number_u32;
 use super::words::piece;
@@ -52,10 +51,11 @@ fn number_of(rows: &[u32], k: usize) -> u32 {
         return header(tasks(rows), k);
     }
     let i = k - 4;
-    if i < rows.len() {
+    let names = 5 * tasks(rows) as usize;
+    if i < names {
         return at(rows, i);
     }
-    let j = i - rows.len();
+    let j = i - names;
     if j % 4 == 0 {
         return (65 + j / 4 % 3) as u32;
     }
@@ -88,10 +88,13 @@ fn size(word: &[u8]) -> usize {
     if kind == b'*' {
         return 20 * (number(word) % 128) as usize;
     }
-    if is_digit(kind) {
-        return 4;
+    if kind < b'0' {
+        return 0;
     }
-    0
+    if b'9' < kind {
+        return 0;
+    }
+    4
 }
 
 // Byte k of what a word writes, which goes to an offset of the file.

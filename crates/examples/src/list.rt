@@ -8,13 +8,6 @@ pub(crate) fn at(list: &[u32], i: usize) -> u32 {
     0
 }
 
-// Sets a number of a list, if the list has it.
-pub(crate) fn set(list: &mut [u32], i: usize, v: u32) {
-    if i < list.len() {
-        list[i] = v;
-    }
-}
-
 // Adds to a counter.
 pub(crate) fn add(counts: &mut [u64], k: usize, n: u32) {
     if k < counts.len() {
@@ -71,7 +64,13 @@ pub(crate) fn column(rows: &[u32], task: usize, k: usize) -> u32 {
     0
 }
 
-// How many tasks rows have, of which there are at most three.
+// How many tasks rows of three have: the others' numbers are 0.
 pub(crate) fn tasks(rows: &[u32]) -> u32 {
-    (rows.len() / 5 % 4) as u32
+    if column(rows, 1, 0) == 0 {
+        return 1;
+    }
+    if column(rows, 2, 0) == 0 {
+        return 2;
+    }
+    3
 }

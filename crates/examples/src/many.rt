@@ -1,10 +1,8 @@
 use super::clock;
-use super::draw::draw_length;
 use super::draw::draw_plan;
 use super::draw::sequence;
 use super::file::build;
 use super::list::add;
-use super::list::first;
 use super::planner;
 use super::print::labelled;
 use super::words::part;
@@ -35,7 +33,7 @@ fn compare_rows(sequence: &[u32], rows: &[u32], counts: &mut [u64]) {
 fn compare_plan(seed: u32, counts: &mut [u64]) -> u32 {
     let numbers = sequence(seed);
     let rows = draw_plan(&numbers);
-    compare_rows(&numbers, first(&rows, draw_length(&numbers)), counts);
+    compare_rows(&numbers, &rows, counts);
     numbers[29]
 }
 

@@ -1,5 +1,6 @@
 ghost use mathlib.Core.Path.{_≡_};
 ghost use lib.ListN.{length};
+use super::clock::first_flag;
 use super::clock::first_missed;
 use super::clock::lesser;
 use super::draw::draw;
@@ -99,23 +100,17 @@ pub(crate) fn optimum(rows: &[u32]) -> [u32; 3]
     longest(rows)
 }
 
-// Whether a task's wcet exceeds its longest period or its cap.
-fn alone(rows: &[u32], task: usize) -> bool {
-    lesser(column(rows, task, 2), column(rows, task, 3)) < column(rows, task, 0)
-}
-
-// The first such of up to three tasks, or 0.
-fn first_alone(rows: &[u32]) -> u32 {
-    if alone(rows, 0) {
-        return 1;
-    }
-    if alone(rows, 1) {
-        return 2;
-    }
-    if alone(rows, 2) {
-        return 3;
+// A task's flag if its wcet exceeds its longest period or its cap, else 0.
+fn alone_flag(rows: &[u32], task: usize, flag: u32) -> u32 {
+    if lesser(column(rows, task, 2), column(rows, task, 3)) < column(rows, task, 0) {
+        return flag;
     }
     0
+}
+
+// The first such task, or 0.
+fn first_alone(rows: &[u32]) -> u32 {
+    first_flag(alone_flag(rows, 0, 1) | alone_flag(rows, 1, 2) | alone_flag(rows, 2, 4))
 }
 
 // Both spaces, whose numbers were 7, behind a call without an answer.

@@ -1,4 +1,3 @@
-use super::list::set;
 use std::num::wrapping_add_u64;
 use std::num::wrapping_add_usize;
 
@@ -71,28 +70,4 @@ pub(crate) fn number(word: &[u8]) -> u64 {
 // The same, where it has 32 bits.
 pub(crate) fn number_u32(word: &[u8]) -> u32 {
     (number(word) % 4294967296) as u32
-}
-
-pub(crate) fn is_digit(b: u8) -> bool {
-    47 < b && b < 58
-}
-
-// Sets number n of a list to a word that is a number; how many the list then has.
-fn listed(word: &[u8], list: &mut [u32], n: usize) -> usize {
-    if is_digit(byte(word, 0)) {
-        set(list, n, number_u32(word));
-        return wrapping_add_usize(n, 1);
-    }
-    n
-}
-
-// The numbers among the words of a text: how many there are.
-pub(crate) fn list_numbers(text: &[u8], list: &mut [u32]) -> usize {
-    let mut n: usize = 0;
-    let mut k: usize = 0;
-    while k < text.len() {
-        n = listed(piece(text, b' ', k), list, n);
-        k += 1;
-    }
-    n
 }
