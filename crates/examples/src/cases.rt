@@ -45,6 +45,7 @@ fn try_read(file: &[u8]) {
     refused(r.number, r.place);
     labelled(b"", &[r.tasks as u64]);
     names(file, r.tasks);
+    text(b"\n");
 }
 
 fn show_times(file: &[u8], periods: &[u32], times: &mut [u32]) {
@@ -52,6 +53,7 @@ fn show_times(file: &[u8], periods: &[u32], times: &mut [u32]) {
     refused(r.number, r.place);
     labelled(b" missed| first| times", &[r.missed as u64, r.first as u64]);
     numbers(times);
+    text(b"\n");
 }
 
 // The number at a word of a call.
@@ -86,14 +88,12 @@ fn try_times(call: &[u8], file: &[u8]) {
 // A work space whose numbers were 7.
 fn show_work(work: &[u32]) {
     if all(work, 7) {
-        text(b" work untouched");
-        return;
+        text(b" work untouched\n");
+    } else if all(work, 0) {
+        text(b" work zero\n");
+    } else {
+        text(b" work left over\n");
     }
-    if all(work, 0) {
-        text(b" work zero");
-        return;
-    }
-    text(b" work left over");
 }
 
 fn show_answer(r: Answer) {
@@ -139,21 +139,12 @@ fn try_list(call: &[u8], file: &[u8]) {
 }
 
 fn try_call(call: &[u8], file: &[u8]) {
-    let kind = byte(call, 1);
-    if kind == b'l' {
-        try_list(call, file);
-        return;
+    match byte(call, 1) {
+        b'r' => try_read(file),
+        b't' => try_times(call, file),
+        b'c' => try_cheapest(call, file),
+        _ => try_list(call, file),
     }
-    if kind == b'r' {
-        try_read(file);
-    }
-    if kind == b't' {
-        try_times(call, file);
-    }
-    if kind == b'c' {
-        try_cheapest(call, file);
-    }
-    text(b"\n");
 }
 
 // A label, a colon, a call, a bar, and the words of its file.

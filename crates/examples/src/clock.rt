@@ -11,12 +11,12 @@ use std::num::wrapping_add_u32;
 // The work that a task releases at the moment `now`.
 fn released_by(wcet: u32, period: u32, now: u32) -> u32 {
     if period == 0 {
-        return 0;
+        0
+    } else if now % period == 0 {
+        wcet
+    } else {
+        0
     }
-    if now % period == 0 {
-        return wcet;
-    }
-    0
 }
 
 // The work that the tasks above one release at the moment `now`.
@@ -31,10 +31,7 @@ fn released(rows: &[u32], periods: &[u32], task: usize, now: u32) -> u32 {
 }
 
 pub(crate) fn lesser(a: u32, b: u32) -> u32 {
-    if a < b {
-        return a;
-    }
-    b
+    if a < b { a } else { b }
 }
 
 // The response time by the clock: tick by tick, until all work released before the tick's end is done; 0 past the deadline.
@@ -55,12 +52,12 @@ fn finish(rows: &[u32], periods: &[u32], task: usize) -> u32 {
 // A task's flag if it is there and misses its deadline, else 0.
 fn missed_flag(rows: &[u32], periods: &[u32], task: usize, flag: u32) -> u32 {
     if column(rows, task, 0) == 0 {
-        return 0;
+        0
+    } else if finish(rows, periods, task) == 0 {
+        flag
+    } else {
+        0
     }
-    if finish(rows, periods, task) == 0 {
-        return flag;
-    }
-    0
 }
 
 // The flags 1, 2 and 4 of the tasks that miss their deadlines.
@@ -72,16 +69,12 @@ fn missed(rows: &[u32], periods: &[u32]) -> u32 {
 
 // The first task that has its flag, or 0.
 pub(crate) fn first_flag(flags: u32) -> u32 {
-    if flags == 0 {
-        return 0;
+    match flags {
+        1 | 3 | 5 | 7 => 1,
+        2 | 6 => 2,
+        4 => 3,
+        _ => 0,
     }
-    if flags % 2 == 1 {
-        return 1;
-    }
-    if flags == 4 {
-        return 3;
-    }
-    2
 }
 
 // The first of up to three tasks that misses its deadline, or 0.
@@ -120,18 +113,26 @@ fn answered(file: &[u8], periods: &[u32], times: &mut [u32]) -> [u32; 7] {
     ]
 }
 
-fn compare_at(file: &[u8], rows: &[u32], periods: &[u32], counts: &mut [u64]) {
+// 1 where TIMES answers something else, else 0.
+fn differs(file: &[u8], rows: &[u32], periods: &[u32]) -> u32 {
     let mut times = [7u32; 3];
     let answer = answered(file, periods, first_mut(&mut times, periods.len()));
-    add(counts, 2, missed_count(rows, periods));
-    if !begins(&expected(rows, periods), &answer) {
-        add(counts, 3, 1);
+    if begins(&expected(rows, periods), &answer) {
+        0
+    } else {
+        1
     }
 }
 
-// Compares TIMES with the clock at drawn periods, in run k of four; counts 1 period assignments, 2 missed deadlines, 3 differences.
+// Counts 1 period assignments, 2 missed deadlines, 3 differences.
+fn compare_at(file: &[u8], rows: &[u32], periods: &[u32], counts: &mut [u64]) {
+    add(counts, 1, 1);
+    add(counts, 2, missed_count(rows, periods));
+    add(counts, 3, differs(file, rows, periods));
+}
+
+// Compares TIMES with the clock at drawn periods, in run k of four.
 pub(crate) fn compare(sequence: &[u32], k: usize, file: &[u8], rows: &[u32], counts: &mut [u64]) {
     let periods = draw_periods(sequence, k, rows);
-    add(counts, 1, 1);
     compare_at(file, rows, first(&periods, tasks(rows) as usize), counts);
 }

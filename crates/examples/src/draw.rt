@@ -27,9 +27,10 @@ pub(crate) fn sequence(seed: u32) -> [u32; 30]
 // Number k of a sequence as one of `count` numbers from `least` on.
 pub(crate) fn draw(sequence: &[u32], k: usize, least: u32, count: u32) -> u32 {
     if count == 0 {
-        return least;
+        least
+    } else {
+        wrapping_add_u32(least, at(sequence, k) / 65536 % count)
     }
-    wrapping_add_u32(least, at(sequence, k) / 65536 % count)
 }
 
 // One, two or three tasks, by number 15.
@@ -42,16 +43,12 @@ fn draw_number(sequence: &[u32], k: usize) -> u32 {
     if draw_tasks(sequence) <= k / 5 {
         return 0;
     }
-    if k % 5 == 2 {
-        return draw(sequence, k, draw(sequence, k - 1, 1, 4), 8);
+    match k % 5 {
+        2 => draw(sequence, k, draw(sequence, k - 1, 1, 4), 8),
+        3 => draw(sequence, k, 1, 24),
+        4 => draw(sequence, k, 0, 4),
+        _ => draw(sequence, k, 1, 4),
     }
-    if k % 5 == 3 {
-        return draw(sequence, k, 1, 24);
-    }
-    if k % 5 == 4 {
-        return draw(sequence, k, 0, 4);
-    }
-    draw(sequence, k, 1, 4)
 }
 
 // Rows of up to three tasks, by numbers 0 to 14.

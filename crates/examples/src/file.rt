@@ -16,50 +16,37 @@ fn put_byte(file: &mut [u8], at: usize, v: u32) {
 
 // A number without its lowest k bytes, of which there are up to three.
 fn without(v: u32, k: usize) -> u32 {
-    if k == 0 {
-        return v;
+    match k {
+        0 => v,
+        1 => v / 256,
+        2 => v / 65536,
+        _ => v / 16777216,
     }
-    if k == 1 {
-        return v / 256;
-    }
-    if k == 2 {
-        return v / 65536;
-    }
-    v / 16777216
 }
 
 // Number k of the header of n tasks, whose rows follow it and whose names follow these.
 fn header(n: u32, k: usize) -> u32 {
-    if 16 < n {
-        return 0;
+    let tasks = n % 17;
+    match k {
+        0 => 1 + 65536 * tasks,
+        1 => 16,
+        2 => 16 + 20 * tasks,
+        _ => 16 + 36 * tasks,
     }
-    if k == 0 {
-        return 1 + 65536 * n;
-    }
-    if k == 1 {
-        return 16;
-    }
-    if k == 2 {
-        return 16 + 20 * n;
-    }
-    16 + 36 * n
 }
 
 // Number k of the plan file of some rows, whose tasks are called A, B and C.
 fn number_of(rows: &[u32], k: usize) -> u32 {
+    let names = 4 + 5 * tasks(rows) as usize;
     if k < 4 {
-        return header(tasks(rows), k);
+        header(tasks(rows), k)
+    } else if k < names {
+        at(rows, k - 4)
+    } else if (k - names) % 4 == 0 {
+        (65 + (k - names) / 4 % 3) as u32
+    } else {
+        0
     }
-    let i = k - 4;
-    let names = 5 * tasks(rows) as usize;
-    if i < names {
-        return at(rows, i);
-    }
-    let j = i - names;
-    if j % 4 == 0 {
-        return (65 + j / 4 % 3) as u32;
-    }
-    0
 }
 
 // Writes the plan file of up to three rows; its length.
@@ -75,41 +62,23 @@ pub(crate) fn build(rows: &[u32], file: &mut [u8]) -> usize {
 
 // How many bytes a word writes.
 fn size(word: &[u8]) -> usize {
-    let kind = byte(word, 0);
-    if kind == b'%' {
-        return 16;
+    match byte(word, 0) {
+        b'%' | b'\'' => 16,
+        b'.' => 1,
+        b'*' => 20 * (number(word) % 128) as usize,
+        b'0'..=b'9' => 4,
+        _ => 0,
     }
-    if kind == b'\'' {
-        return 16;
-    }
-    if kind == b'.' {
-        return 1;
-    }
-    if kind == b'*' {
-        return 20 * (number(word) % 128) as usize;
-    }
-    if kind < b'0' {
-        return 0;
-    }
-    if b'9' < kind {
-        return 0;
-    }
-    4
 }
 
 // Byte k of what a word writes, which goes to an offset of the file.
 fn byte_of(word: &[u8], k: usize, file: &[u8], to: usize) -> u32 {
-    let kind = byte(word, 0);
-    if kind == b'%' {
-        return without(header(number_u32(word), k / 4), k % 4);
+    match byte(word, 0) {
+        b'%' => without(header(number_u32(word), k / 4), k % 4),
+        b'\'' => byte(word, wrapping_add_usize(k, 1)) as u32,
+        b'*' => byte(file, wrapping_sub_usize(to, 20)) as u32,
+        _ => without(number_u32(word), k),
     }
-    if kind == b'\'' {
-        return byte(word, wrapping_add_usize(k, 1)) as u32;
-    }
-    if kind == b'*' {
-        return byte(file, wrapping_sub_usize(to, 20)) as u32;
-    }
-    without(number_u32(word), k)
 }
 
 // Writes a word at an offset; the offset behind it.
@@ -133,24 +102,23 @@ struct Place {
 
 // The place behind a word that is written up to an offset.
 fn moved(word: &[u8], behind: usize, p: Place) -> Place {
-    let kind = byte(word, 0);
-    if kind == b'%' {
-        let end = header(number_u32(word), 3) as usize;
-        return Place { at: behind, end };
-    }
-    if kind == b'@' {
-        let at = number(word) as usize;
-        return Place { at, end: p.end };
-    }
-    if kind == b';' {
-        return Place {
+    match byte(word, 0) {
+        b'%' => Place {
+            at: behind,
+            end: header(number_u32(word), 3) as usize,
+        },
+        b'@' => Place {
+            at: number(word) as usize,
+            end: p.end,
+        },
+        b';' => Place {
             at: behind,
             end: behind,
-        };
-    }
-    Place {
-        at: behind,
-        end: p.end,
+        },
+        _ => Place {
+            at: behind,
+            end: p.end,
+        },
     }
 }
 

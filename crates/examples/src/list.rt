@@ -2,10 +2,7 @@ use std::num::wrapping_add_u64;
 
 // A number of a list, and 0 past its end.
 pub(crate) fn at(list: &[u32], i: usize) -> u32 {
-    if i < list.len() {
-        return list[i];
-    }
-    0
+    if i < list.len() { list[i] } else { 0 }
 }
 
 // Adds to a counter.
@@ -67,10 +64,10 @@ pub(crate) fn column(rows: &[u32], task: usize, k: usize) -> u32 {
 // How many tasks rows of three have: the others' numbers are 0.
 pub(crate) fn tasks(rows: &[u32]) -> u32 {
     if column(rows, 1, 0) == 0 {
-        return 1;
+        1
+    } else if column(rows, 2, 0) == 0 {
+        2
+    } else {
+        3
     }
-    if column(rows, 2, 0) == 0 {
-        return 2;
-    }
-    3
 }

@@ -103,9 +103,10 @@ pub(crate) fn optimum(rows: &[u32]) -> [u32; 3]
 // A task's flag if its wcet exceeds its longest period or its cap, else 0.
 fn alone_flag(rows: &[u32], task: usize, flag: u32) -> u32 {
     if lesser(column(rows, task, 2), column(rows, task, 3)) < column(rows, task, 0) {
-        return flag;
+        flag
+    } else {
+        0
     }
-    0
 }
 
 // The first such task, or 0.
@@ -122,9 +123,10 @@ fn unanswered(cost: u64, periods: &[u32], work: &[u32], left: u32) -> bool {
 fn right_place(r: Answer, rows: &[u32], missed: u32) -> bool {
     let task = first_alone(rows);
     if task != 0 {
-        return r.number == 31 && r.place == task;
+        r.number == 31 && r.place == task
+    } else {
+        r.number == 32 && r.place == missed
     }
-    r.number == 32 && r.place == missed
 }
 
 // A refusal: nothing is schedulable, and both spaces are untouched.
@@ -150,20 +152,15 @@ fn enough(rows: &[u32]) -> usize {
 
 // Whether the budget or the room is below the number of assignments, as at every stop.
 fn is_short(rows: &[u32], budget: u64, room: usize) -> bool {
-    if budget < assignments(rows) as u64 {
-        return true;
-    }
-    room < enough(rows)
+    budget < assignments(rows) as u64 || room < enough(rows)
 }
 
 // A stop: 33, at the budget, or 34, with a bound of at most the least cost.
 fn right_stop(r: Answer, least: u32, budget: u64, periods: &[u32], work: &[u32]) -> bool {
-    if r.number == 33 {
-        if r.rounds != budget {
-            return false;
-        }
-    }
-    32 < r.number && r.place == 0 && r.bound <= least as u64 && unanswered(r.cost, periods, work, 0)
+    (r.number == 34 || r.number == 33 && r.rounds == budget)
+        && r.place == 0
+        && r.bound <= least as u64
+        && unanswered(r.cost, periods, work, 0)
 }
 
 fn right_rounds(rounds: u64, rows: &[u32], budget: u64) -> bool {
@@ -181,29 +178,27 @@ fn right(
 ) -> bool {
     let missed = first_missed(rows, optimum);
     if missed != 0 {
-        return right_refusal(r, rows, missed, periods, work);
+        right_refusal(r, rows, missed, periods, work)
+    } else if !right_rounds(r.rounds, rows, budget) {
+        false
+    } else if r.number == 0 {
+        right_answer(r, rows, optimum, periods, work)
+    } else {
+        is_short(rows, budget, work.len())
+            && right_stop(r, cost(rows, optimum), budget, periods, work)
     }
-    if !right_rounds(r.rounds, rows, budget) {
-        return false;
-    }
-    if r.number == 0 {
-        return right_answer(r, rows, optimum, periods, work);
-    }
-    is_short(rows, budget, work.len()) && right_stop(r, cost(rows, optimum), budget, periods, work)
 }
 
 // Where an answer's number is counted; 11 for a difference.
 fn counter(number: u32) -> usize {
-    if number == 0 {
-        return 6;
+    match number {
+        0 => 6,
+        31 => 7,
+        32 => 8,
+        33 => 9,
+        34 => 10,
+        _ => 11,
     }
-    if number < 31 {
-        return 11;
-    }
-    if 34 < number {
-        return 11;
-    }
-    (number - 24) as usize
 }
 
 // The counter of CHEAPEST's answer.
@@ -217,9 +212,10 @@ fn judge(
 ) -> usize {
     let r = optimizer::cheapest_periods(file, budget, periods, work);
     if right(r, rows, optimum, budget, periods, work) {
-        return counter(r.number);
+        counter(r.number)
+    } else {
+        11
     }
-    11
 }
 
 // One run, with fresh spaces.
@@ -239,17 +235,19 @@ fn judge_run(file: &[u8], rows: &[u32], optimum: &[u32], budget: u64, room: usiz
 // A budget for every assignment, or few rounds by number 28.
 fn budget(sequence: &[u32], k: usize, rows: &[u32]) -> u64 {
     if k % 2 == 0 {
-        return assignments(rows) as u64;
+        assignments(rows) as u64
+    } else {
+        draw(sequence, 28, 0, 8) as u64
     }
-    draw(sequence, 28, 0, 8) as u64
 }
 
 // Room for every assignment, or for few by number 29.
 fn room(sequence: &[u32], k: usize, rows: &[u32]) -> usize {
     if k < 2 {
-        return enough(rows);
+        enough(rows)
+    } else {
+        draw(sequence, 29, tasks(rows), 8) as usize
     }
-    draw(sequence, 29, tasks(rows), 8) as usize
 }
 
 // Compares CHEAPEST with the enumeration in run k of four: with enough budget and room, with little of the one, the other and both.

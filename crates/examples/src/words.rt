@@ -3,10 +3,7 @@ use std::num::wrapping_add_usize;
 
 // A byte of a text, and 0 past its end.
 pub(crate) fn byte(text: &[u8], i: usize) -> u8 {
-    if i < text.len() {
-        return text[i];
-    }
-    0
+    if i < text.len() { text[i] } else { 0 }
 }
 
 // The bytes of a text from an offset to before another; none where there are no such.
@@ -44,16 +41,10 @@ pub(crate) fn piece(text: &[u8], separator: u8, k: usize) -> &[u8] {
 
 // A number with one more digit; a byte that is no digit leaves it.
 fn with_digit(v: u64, b: u8) -> u64 {
-    if b < 48 {
-        return v;
+    match b {
+        b'0'..=b'9' => wrapping_add_u64(10 * (v % 1844674407370955162), (b - b'0') as u64),
+        _ => v,
     }
-    if 57 < b {
-        return v;
-    }
-    if 1844674407370955161 < v {
-        return v;
-    }
-    wrapping_add_u64(10 * v, (b - 48) as u64)
 }
 
 // The number that a word's digits are.
