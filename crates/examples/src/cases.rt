@@ -143,7 +143,8 @@ fn try_call(call: &[u8], file: &[u8]) {
         b'r' => try_read(file),
         b't' => try_times(call, file),
         b'c' => try_cheapest(call, file),
-        _ => try_list(call, file),
+        b'l' => try_list(call, file),
+        _ => {}
     }
 }
 
@@ -177,8 +178,9 @@ fn try_lines(lines: &[u8]) {
     }
 }
 
+// The lines of standard input, and nothing past 32,768 bytes.
 pub(crate) fn run() {
-    let mut lines = [0u8; 16384];
+    let mut lines = [0u8; 32768];
     let size = io::read_full(STDIN_FILENO, &mut lines);
     try_lines(&lines[..size]);
 }

@@ -24,7 +24,7 @@ fn without(v: u32, k: usize) -> u32 {
     }
 }
 
-// Number k of the header of n tasks, whose rows follow it and whose names follow these.
+// Number k of the header of n tasks, at most sixteen, whose rows follow it and whose names follow these.
 fn header(n: u32, k: usize) -> u32 {
     let tasks = n % 17;
     match k {

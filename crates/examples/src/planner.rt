@@ -55,22 +55,20 @@ fn cost(rows: &[u32], periods: &[u32]) -> u32 {
     wrapping_add_u32(a, wrapping_add_u32(b, c))
 }
 
-// Whether periods are at most others.
-fn within(periods: &[u32], longest: &[u32]) -> bool {
-    at(periods, 0) <= at(longest, 0)
-        && at(periods, 1) <= at(longest, 1)
-        && at(periods, 2) <= at(longest, 2)
+fn within(rows: &[u32], periods: &[u32]) -> bool {
+    at(periods, 0) <= column(rows, 0, 2)
+        && at(periods, 1) <= column(rows, 1, 2)
+        && at(periods, 2) <= column(rows, 2, 2)
 }
 
 // The cost of assignment k where it is within the bounds and schedulable, and else more than any.
 fn cost_of(rows: &[u32], k: u32) -> u32 {
     let periods = assignment(rows, k);
-    if within(&periods, &longest(rows)) {
-        if first_missed(rows, &periods) == 0 {
-            return cost(rows, &periods);
-        }
+    if within(rows, &periods) && first_missed(rows, &periods) == 0 {
+        cost(rows, &periods)
+    } else {
+        4294967295
     }
-    4294967295
 }
 
 // The number of the cheapest assignment, the first of equal cost; 512 where none is schedulable.

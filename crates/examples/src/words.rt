@@ -39,7 +39,7 @@ pub(crate) fn piece(text: &[u8], separator: u8, k: usize) -> &[u8] {
     part(text, from, find(text, from, separator))
 }
 
-// A number with one more digit; a byte that is no digit leaves it.
+// A number with one more digit, up to the largest of 64 bits; a byte that is no digit leaves it.
 fn with_digit(v: u64, b: u8) -> u64 {
     match b {
         b'0'..=b'9' => wrapping_add_u64(10 * (v % 1844674407370955162), (b - b'0') as u64),
