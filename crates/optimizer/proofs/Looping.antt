@@ -21,7 +21,7 @@ use Rattle.optimizer.specs.declared.children.Listing.the-variants.{Liste
 use Rattle.optimizer.specs.Nodes.{leastOf, without, kept, occurrences, SameNodes}
 use Rattle.optimizer.specs.Rule.{End, ended}
 use Rattle.optimizer.specs.Search.{problem, search, mua, childrenFrom}
-use Rattle.optimizer.specs.Inner.{nodes, Open, Taken, Priced, HasRoom, Above, keptChildren, openAfter, Lists, ColumnsOf, Ends}
+use Rattle.optimizer.specs.Inner.{nodes, Open, Taken, Priced, HasRoom, Above, keptChildren, openAfter, Lists, ColumnsOf, Searchable, Ends}
 use Rattle.optimizer.specs.Mua.{Unschedulable}
 use Rattle.optimizer.proofs.Space.{length-nodes}
 use Rattle.optimizer.proofs.Maximal.{Sound, FailsAbove, mua-fails}
@@ -39,10 +39,7 @@ listing-listed true t e f = let z : _≡_ {A = ℕ} 0 1 = cc in absurd (omega ar
 listing-listed false t e f = (refl, cc)
 
 module _ {ts : List Task} {wcet caps mins maxs ws : List ℕ} (g : ColumnsOf ts wcet caps mins maxs ws) where
-  abbrev test : List ℕ → Bool
-  test = schedulable (timing wcet caps)
-
-  sound-test : Sound ts test
+  sound-test : Sound ts (schedulable (timing wcet caps))
   sound-test = rw (g .wcet-is, g .caps-is) (sound (g .sane))
 
   pub width : (length wcet ≡ length ts) × (length caps ≡ length ts) × (length maxs ≡ length ts) × (length ws ≡ length ts) × (length mins ≡ length ts)
@@ -51,113 +48,136 @@ module _ {ts : List Task} {wcet caps mins maxs ws : List ℕ} (g : ColumnsOf ts 
   light : (i : ℕ) → getD ws i 0 ≤ maxWeight
   light i = rw (g .weights-is) (sane-at (g .sane) i .weight-most)
 
-  -- count open nodes at the front of the work space, of so many numbers
-  pub record Looping (budget room size : ℕ) (work : List ℕ) (count rounds : ℕ) : Type 0 where
-    pub few : count ≤ room
-    pub long : length work ≡ size
-    running : Running ts test budget room rounds (nodes count (length ws) work)
+  over-tasks : (budget room : ℕ) → search (problem (schedulable (timing wcet caps)) mins maxs ws) budget room ≡ search (over ts (schedulable (timing wcet caps))) budget room
+  over-tasks budget room = rw (g .mins-is, g .maxs-is, g .weights-is)
 
-  abbrev target : ℕ → ℕ → End (Unit {0})
-  target budget room = search (problem test mins maxs ws) budget room
+  mua-above : {node : List ℕ} → Within ts node → schedulable (timing wcet caps) node ≡ false → FailsAbove ts (schedulable (timing wcet caps)) node (mua (schedulable (timing wcet caps)) maxs node)
+  mua-above w e = rw (g .maxs-is) (mua-fails (schedulable (timing wcet caps)) w e)
 
-  longest : test maxs ≡ true → test (periodMaxs ts) ≡ true
-  longest top = rw (g .maxs-is) at top
+-- count open nodes at the front of the work space, of so many numbers
+pub record Looping (wcet caps mins maxs ws : List ℕ) (budget room size : ℕ) (work : List ℕ) (count rounds : ℕ) : Type 0 where
+  pub tasks : List Task
+  pub are : ColumnsOf tasks wcet caps mins maxs ws
+  pub top : schedulable (timing wcet caps) maxs ≡ true
+  pub fits : room * length ws ≤ size
+  pub few : count ≤ room
+  pub long : length work ≡ size
+  running : Running tasks (schedulable (timing wcet caps)) budget room rounds (nodes count (length ws) work)
 
-  module _ (top : test maxs ≡ true) {budget room size : ℕ} (fits : room * length ws ≤ size) where
-    pub begins : 1 ≤ room → {work : List ℕ} → length work ≡ size → take (length ws) work ≡ mins → Looping budget room size work 1 0
-    begins h {work} l e = record { few = h; long = l; running = rw (e, g .mins-is) (running-start sound-test budget room) }
+pub begins : {wcet caps mins maxs ws work : List ℕ} {budget room size : ℕ} → Searchable wcet caps mins maxs ws → room * length ws ≤ size → 1 ≤ room → length work ≡ size → take (length ws) work ≡ mins
+    → Looping wcet caps mins maxs ws budget room size work 1 0
+begins {budget = budget} {room} s f h l e = record { tasks = s .tasks; are = s .are; top = s .top; fits = f; few = h; long = l; running = rw (e, s .are .mins-is) (running-start (sound-test (s .are)) budget room) }
 
-    module _ {work : List ℕ} {count rounds : ℕ} (r : Looping budget room size work count rounds) where
-      pub some-open : 1 ≤ count
-      some-open = omega (arith, running-some sound-test (longest top) (r .running), length-nodes count (length ws) work)
+module _ {wcet caps mins maxs ws : List ℕ} {budget room size : ℕ} {work : List ℕ} {count rounds : ℕ} (r : Looping wcet caps mins maxs ws budget room size work count rounds) where
+  abbrev ts : List Task
+  ts = r .tasks
 
-      pub all-open : Open ws work count
-      all-open = record { few = omega (arith, g .few, width .3); light = light; fits = omega (arith, r .long, mul-le-mul-right (length ws) (r .few)) }
+  abbrev test : List ℕ → Bool
+  test = schedulable (timing wcet caps)
 
-      over-target : target budget room ≡ search (over ts test) budget room
-      over-target = rw (g .mins-is, g .maxs-is, g .weights-is)
+  abbrev target : End (Unit {0})
+  target = search (problem test mins maxs ws) budget room
 
-      pub ends-spent : budget ≤ rounds → target budget room ≡ ended 33 [] rounds (cost ws (leastOf ws (nodes count (length ws) work))) tt
-      ends-spent h = over-target ∙ running-spent sound-test (longest top) (r .running) refl h ∙ ap (λ (w : List ℕ). ended 33 [] rounds (cost w (leastOf w (nodes count (length ws) work))) tt) (sym (g .weights-is))
+  monotone : Sound ts test
+  monotone = sound-test (r .are)
 
-      module _ {v p : List ℕ} (t : Taken ws count work v p) where
-        abbrev node : List ℕ
-        node = take (length ws) p
+  feasible : test (periodMaxs ts) ≡ true
+  feasible = rw (r .are .maxs-is) at (r .top)
 
-        is-least : node ≡ leastOf (weights ts) (nodes count (length ws) work)
-        is-least = t .least ∙ ap (λ (w : List ℕ). leastOf w (nodes count (length ws) work)) (g .weights-is)
+  pub some-open : 1 ≤ count
+  some-open = omega (arith, running-some monotone feasible (r .running), length-nodes count (length ws) work)
 
-        within : Within ts node
-        within = running-within sound-test (longest top) (r .running) is-least
+  pub all-open : Open ws work count
+  all-open = record { few = omega (arith, r .are .few, width (r .are) .3); light = light (r .are); fits = omega (arith, r .long, r .fits, mul-le-mul-right (length ws) (r .few)) }
 
-        pub node-limits : Limits wcet node
-        node-limits = rw (g .wcet-is) (limits-within (g .sane) (g .few) within)
+  over-target : target ≡ search (over ts test) budget room
+  over-target = over-tasks (r .are) budget room
 
-        pub node-priced : Priced ws node
-        node-priced = record { few = omega (arith, within .sized, g .few); sized = t .sized; light = light }
+  pub ends-spent : budget ≤ rounds → target ≡ ended 33 [] rounds (cost ws (leastOf ws (nodes count (length ws) work))) tt
+  ends-spent h = over-target ∙ running-spent monotone feasible (r .running) refl h ∙ ap (λ (w : List ℕ). ended 33 [] rounds (cost w (leastOf w (nodes count (length ws) work))) tt) (sym (r .are .weights-is))
 
-        module _ (h : rounds < budget) where
-          pub ends-answer : test node ≡ true → target budget room ≡ ended 0 node (rounds + 1) 0 tt
-          ends-answer e = rw (add-one rounds) (over-target ∙ running-answer sound-test (longest top) (r .running) is-least h e)
+  module _ {v p : List ℕ} (t : Taken ws count work v p) where
+    abbrev node : List ℕ
+    node = take (length ws) p
 
-          module _ (e : test node ≡ false) (l : length v ≡ length work) where
-            pub node-fails : Unschedulable wcet caps maxs node
-            node-fails = record {
-              columns = record { limits = node-limits; capped = omega (arith, width) };
-              sized = omega (arith, width, within .sized);
-              high = λ k. rw (g .maxs-is) (within .high k);
-              most = λ k. rw (g .maxs-is) (sane-at (g .sane) k .max-most);
-              fails = e;
-            }
+    is-least : node ≡ leastOf (weights ts) (nodes count (length ws) work)
+    is-least = t .least ∙ ap (λ (w : List ℕ). leastOf w (nodes count (length ws) work)) (r .are .weights-is)
 
-            pub node-room : HasRoom v (count - 1) room node
-            node-room = record { within = omega (arith, r .few); fits = rw (t .sized) (omega (arith, r .long)) }
+    within : Within ts node
+    within = running-within monotone feasible (r .running) is-least
 
-            abbrev others : List (List ℕ)
-            others = nodes (count - 1) (length ws) v
+    pub node-limits : Limits wcet node
+    node-limits = rw (r .are .wcet-is) (limits-within (r .are .sane) (r .are .few) within)
 
-            abbrev u : List ℕ
-            u = mua test maxs node
+    pub node-priced : Priced ws node
+    node-priced = record { few = omega (arith, within .sized, r .are .few); sized = t .sized; light = light (r .are) }
 
-            u-is : u ≡ mua test (periodMaxs ts) node
-            u-is = ap (λ (m : List ℕ). mua test m node) (g .maxs-is)
+    module _ (h : rounds < budget) where
+      pub ends-answer : test node ≡ true → target ≡ ended 0 node (rounds + 1) 0 tt
+      ends-answer e = rw (add-one rounds) (over-target ∙ running-answer monotone feasible (r .running) is-least h e)
 
-            abbrev kids : List (List ℕ)
-            kids = childrenFrom (length node) (periodMaxs ts) node u 0
+      module _ (e : test node ≡ false) (l : length v ≡ length work) where
+        pub node-fails : Unschedulable wcet caps maxs node
+        node-fails = record {
+          columns = record { limits = node-limits; capped = omega (arith, width (r .are)) };
+          sized = omega (arith, width (r .are), within .sized);
+          high = λ k. rw (r .are .maxs-is) (within .high k);
+          most = λ k. rw (r .are .maxs-is) (sane-at (r .are .sane) k .max-most);
+          fails = e;
+        }
 
-            pub node-above : Above node u
-            node-above = let f : FailsAbove ts test node u = rw (g .maxs-is) (mua-fails test within e) in record { sized = f .within .sized ∙ sym (within .sized); above = f .above }
+        pub node-room : HasRoom v (count - 1) room node
+        node-room = record { within = omega (arith, r .few); fits = rw (t .sized) (omega (arith, r .long, r .fits)) }
 
-            rest-is : SameNodes others (without (leastOf (weights ts) (nodes count (length ws) work)) (nodes count (length ws) work))
-            rest-is q = t .rest q ∙ ap (λ (w : List ℕ). occurrences q (without (leastOf w (nodes count (length ws) work)) (nodes count (length ws) work))) (g .weights-is)
+        abbrev others : List (List ℕ)
+        others = nodes (count - 1) (length ws) v
 
-            module _ {w : List ℕ} {x : Listing} (y : Lists maxs node u (count - 1) room v w x) where
-              kept-is : keptChildren maxs node u (count - 1) v ≡ kept kids others
-              kept-is = ap (λ (m : List ℕ). kept (childrenFrom (length node) m node u 0) (nodes (count - 1) (length node) v)) (g .maxs-is) ∙ ap (λ m. kept kids (nodes (count - 1) m v)) (t .sized)
+        abbrev u : List ℕ
+        u = mua test maxs node
 
-              total : openAfter maxs node u (count - 1) v ≡ length others + length (kept kids others)
-              total = omega (arith, ap length kept-is, length-nodes (count - 1) (length ws) v)
+        u-is : u ≡ mua test (periodMaxs ts) node
+        u-is = ap (λ (m : List ℕ). mua test m node) (r .are .maxs-is)
 
-              pub ends-full : x ≡ Full → target budget room ≡ ended 34 [] (rounds + 1) (cost ws node) tt
-              ends-full f =
-                  let b = ltb-true room _ (rw total at (listing-full (ltb room (openAfter maxs node u (count - 1) v)) _ (y .outcome) f)) in
-                  rw (add-one rounds) (over-target ∙ running-full sound-test (longest top) (r .running) is-least h e u-is others rest-is b ∙ ap (λ (q : List ℕ). ended 34 [] (suc rounds) (cost q node) tt) (sym (g .weights-is)))
+        abbrev kids : List (List ℕ)
+        kids = childrenFrom (length node) (periodMaxs ts) node u 0
 
-              pub goes-on : {c : ℕ} → x ≡ Listed c → length w ≡ length v → Looping budget room size w c (rounds + 1)
-              goes-on {c} f m =
-                  let b = listing-listed (ltb room (openAfter maxs node u (count - 1) v)) _ (y .outcome) f in
-                  let n : nodes c (length ws) w ≡ others ++ kept kids others =
-                  ap (λ k. nodes k (length ws) w) (b .1)
-                  ∙ ap (λ k. nodes (openAfter maxs node u (count - 1) v) k w) (sym (t .sized))
-                  ∙ y .listed (b .0)
-                  ∙ ap (λ (q : List (List ℕ)). nodes (count - 1) (length node) v ++ q) kept-is
-                  ∙ ap (λ k. nodes (count - 1) k v ++ kept kids others) (t .sized) in
-                  let i = ltb-false room (openAfter maxs node u (count - 1) v) (b .0) in
-                  record {
-                    few = omega arith;
-                    long = m ∙ l ∙ r .long;
-                    running = rw (add-one rounds) (running-on sound-test (longest top) (r .running) is-least h e u-is others rest-is (omega (arith, total)) (nodes c (length ws) w) (λ p. rw n));
-                  }
+        pub node-above : Above node u
+        node-above = let f = mua-above (r .are) within e in record { sized = f .within .sized ∙ sym (within .sized); above = f .above }
+
+        rest-is : SameNodes others (without (leastOf (weights ts) (nodes count (length ws) work)) (nodes count (length ws) work))
+        rest-is q = t .rest q ∙ ap (λ (w : List ℕ). occurrences q (without (leastOf w (nodes count (length ws) work)) (nodes count (length ws) work))) (r .are .weights-is)
+
+        module _ {w : List ℕ} {x : Listing} (y : Lists maxs node u (count - 1) room v w x) where
+          kept-is : keptChildren maxs node u (count - 1) v ≡ kept kids others
+          kept-is = ap (λ (m : List ℕ). kept (childrenFrom (length node) m node u 0) (nodes (count - 1) (length node) v)) (r .are .maxs-is) ∙ ap (λ m. kept kids (nodes (count - 1) m v)) (t .sized)
+
+          total : openAfter maxs node u (count - 1) v ≡ length others + length (kept kids others)
+          total = omega (arith, ap length kept-is, length-nodes (count - 1) (length ws) v)
+
+          pub ends-full : x ≡ Full → target ≡ ended 34 [] (rounds + 1) (cost ws node) tt
+          ends-full f =
+              let b = ltb-true room _ (rw total at (listing-full (ltb room (openAfter maxs node u (count - 1) v)) _ (y .outcome) f)) in
+              rw (add-one rounds) (over-target ∙ running-full monotone feasible (r .running) is-least h e u-is others rest-is b ∙ ap (λ (q : List ℕ). ended 34 [] (suc rounds) (cost q node) tt) (sym (r .are .weights-is)))
+
+          pub goes-on : {c : ℕ} → x ≡ Listed c → length w ≡ length v → Looping wcet caps mins maxs ws budget room size w c (rounds + 1)
+          goes-on {c} f m =
+              let b = listing-listed (ltb room (openAfter maxs node u (count - 1) v)) _ (y .outcome) f in
+              let n : nodes c (length ws) w ≡ others ++ kept kids others =
+              ap (λ k. nodes k (length ws) w) (b .1)
+              ∙ ap (λ k. nodes (openAfter maxs node u (count - 1) v) k w) (sym (t .sized))
+              ∙ y .listed (b .0)
+              ∙ ap (λ (q : List (List ℕ)). nodes (count - 1) (length node) v ++ q) kept-is
+              ∙ ap (λ k. nodes (count - 1) k v ++ kept kids others) (t .sized) in
+              let i = ltb-false room (openAfter maxs node u (count - 1) v) (b .0) in
+              record {
+                tasks = ts;
+                are = r .are;
+                top = r .top;
+                fits = r .fits;
+                few = omega arith;
+                long = m ∙ l ∙ r .long;
+                running = rw (add-one rounds) (running-on monotone feasible (r .running) is-least h e u-is others rest-is (omega (arith, total)) (nodes c (length ws) w) (λ p. rw n));
+              }
 
 -- the outcome in the words of the code
 pub ends : {ws : List ℕ} {e : End (Unit {0})} {n r b b′ price : ℕ} {xs o o′ : List ℕ} → e ≡ ended n xs r b tt → price ≡ cond (eqb n 0) (cost ws xs) 0 → b′ ≡ b → o′ ≡ cond (eqb n 0) xs o
