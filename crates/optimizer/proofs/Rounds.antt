@@ -60,7 +60,8 @@ module _ {ts : List Task} {test : List ℕ → Bool} {R : Rule} {Carried : R .St
       -- the least node dominates none of those that are listed next
       past : (q : List ℕ) → Listed q (next R s ps) → dominates l q ≡ true → ⊥
       past q h d =
-          let v = open-next 𝓛 s c o e .within q h in let n = v .sized ∙ sym (least-within 𝓛 o .sized) in
+          let v = open-next 𝓛 s c o e .within q h in
+          let n = v .sized ∙ sym (least-within 𝓛 o .sized) in
           let a = dominates-within v (least-within 𝓛 o) d in
           elim (listed-next q h) [
             | inl r ↦ elim (dominating-later (R .weights) q l n a) [

@@ -41,11 +41,16 @@ between-le low x high e = (leb-true low x (and-left (leb low x) (leb x high) e),
 
 sane : (t : Task) (i : ℕ) → rowFault t i .number ≡ 0 → Sane t
 sane t i e =
-    let f8 = faultIf (not (withinLimits t)) 8 (suc i) in let f9 = faultIf (ltb (t .«period_max») (t .«period_min»)) 9 (suc i) in
+    let f8 = faultIf (not (withinLimits t)) 8 (suc i) in
+    let f9 = faultIf (ltb (t .«period_max») (t .«period_min»)) 9 (suc i) in
     let ok = not-false (withinLimits t) (if-passed (not (withinLimits t)) 7 (suc i) (or-first f8 f9 e)) in
-    let c = between 1 (t .wcet) maxTicks in let l = between 1 (t .«period_min») maxTicks in let h = between 1 (t .«period_max») maxTicks in
+    let c = between 1 (t .wcet) maxTicks in
+    let l = between 1 (t .«period_min») maxTicks in
+    let h = between 1 (t .«period_max») maxTicks in
     let k = between 1 (t .«deadline_cap») maxTicks in let w = leb (t .weight) maxWeight in
-    let r1 = and-right c (l && (h && (k && w))) ok in let r2 = and-right l (h && (k && w)) r1 in let r3 = and-right h (k && w) r2 in
+    let r1 = and-right c (l && (h && (k && w))) ok in
+    let r2 = and-right l (h && (k && w)) r1 in
+    let r3 = and-right h (k && w) r2 in
     let bc = between-le 1 (t .wcet) maxTicks (and-left c (l && (h && (k && w))) ok) in
     let bl = between-le 1 (t .«period_min») maxTicks (and-left l (h && (k && w)) r1) in
     let bh = between-le 1 (t .«period_max») maxTicks (and-left h (k && w) r2) in

@@ -130,7 +130,9 @@ layout-small s =
 
 task-small : (s : List ℕ) (i : ℕ) → taskFault s i .number ≤ 11
 task-small s i =
-    let t = taskOf s i in let f8 = faultIf (not (withinLimits t)) 8 (suc i) in let f9 = faultIf (ltb (t .«period_max») (t .«period_min»)) 9 (suc i) in
+    let t = taskOf s i in
+    let f8 = faultIf (not (withinLimits t)) 8 (suc i) in
+    let f9 = faultIf (ltb (t .«period_max») (t .«period_min»)) 9 (suc i) in
     or-le (rowFault t i) (faultIf (not (nameOk (nameField s i))) 10 (suc i)) 11
     (or-le f8 f9 11 (small (not (withinLimits t)) 8 (suc i) (omega arith)) (small (ltb (t .«period_max») (t .«period_min»)) 9 (suc i) (omega arith)))
     (small (not (nameOk (nameField s i))) 10 (suc i) (omega arith))

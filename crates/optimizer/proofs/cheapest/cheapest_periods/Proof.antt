@@ -113,7 +113,10 @@ returns-4 c =
     let else1 = else2 .before .before in
     let after-load-plan = else1 .before .before in
     let start = after-load-plan .before .before .before .before in
-    let a = start .args in let s : List ℕ = a .file .now in let l = after-load-plan .load-plan in let t = of-tasks else1 in
+    let a = start .args in
+    let s : List ℕ = a .file .now in
+    let l = after-load-plan .load-plan in
+    let t = of-tasks else1 in
     let room : length (take (l .result .plan .tasks) (l .result .plan .weight)) ≡ taskCount s = fits else1 .weight .0 ∙ t in
     plans-concluded s (a .budget) (a .periods .now) (a .work .now) (call-passes s (a .budget) (a .periods .now) (a .work .now) (passes else1) (else2 .if2 .left ∙ t) (rw t at (else3 .if3 .left))) _ _ (after-conclude .conclude .result)
     (rw room at (after-conclude .conclude .ensures (tasksOf s) (loaded-columns (l .ensures) (loaded else1))))

@@ -21,7 +21,9 @@ slice-aggregate-expand c = sym (mua-length (c .before .before))
 expand-requires : tie.Need-expand-requires
 expand-requires c κs =
     let s = c .before .before .before .before .before .before .before .before in
-    let m = c .before .before in let few = s .pre .0 .columns .limits .few in let long = s .pre .0 .columns .limits .sized in
+    let m = c .before .before in
+    let few = s .pre .0 .columns .limits .few in
+    let long = s .pre .0 .columns .limits .sized in
     (record { few = omega arith; fits = omega (arith, mul-le-mul-right (length (s .args .node .now)) (s .pre .1 .0 .within), s .pre .1 .0 .fits); above = rw (m .mua .ensures) (s .pre .1 .1) }, s .pre .1 .0, s .pre .0 .sized)
 
 same-length : tie.Need-same-length

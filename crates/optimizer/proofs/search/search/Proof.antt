@@ -64,7 +64,9 @@ place-requires c κs =
 loop-holds : tie.Need-loop-holds Inv-loop μ-loop
 loop-holds c =
     let s = c .before .before .before .before .before .before .before .before .before .before .before in
-    let p = c .before .before in let n : ℕ = length (s .args .weights .now) in let g = s .pre .0 .are in
+    let p = c .before .before in
+    let n : ℕ = length (s .args .weights .now) in
+    let g = s .pre .0 .are in
     (refl, begins (s .pre .0) (roomy p) (le-div-iff-mul-le (omega (arith, width g .3, g .some)) .1 (omega (arith, one-mul n))) refl (first-node {n = n} (s .args .work .now) (omega (arith, width g)) (p .place .ensures)))
 
 take-least-requires : tie.Need-take-least-requires Inv-loop μ-loop
@@ -142,7 +144,10 @@ slice-aggregate-branch c = sym (taken (c .before .before .before) .take-least .e
 
 branch-requires : tie.Need-branch-requires Inv-loop μ-loop
 branch-requires c κs =
-    let t = c .before .before in let m = taken (t .before) in let l = head m in let r = l .loop .inv .1 in
+    let t = c .before .before in
+    let m = taken (t .before) in
+    let l = head m in
+    let r = l .loop .inv .1 in
     let y = m .take-least .ensures in
     let h = m .before .before .loop-test .taken in
     let k = m .take-least .kept .0 in

@@ -18,7 +18,8 @@ abbrev μ-loop : tie.MeasureT-loop
 
 loop-holds : tie.Need-loop-holds Inv-loop μ-loop
 loop-holds c =
-    let e : c .args .n - 0 ≡ c .args .n = omega arith in let a : c .args .at + 0 ≡ c .args .at = omega arith in
+    let e : c .args .n - 0 ≡ c .args .n = omega arith in
+    let a : c .args .at + 0 ≡ c .args .at = omega arith in
     (omega arith, rw (e, a))
 
 add-if1 : tie.Need-add-if1 Inv-loop μ-loop

@@ -38,7 +38,9 @@ returns : tie.Need-returns Inv-loop μ-loop
 returns c =
     let at-loop = c .before .before .before .before .before in
     let start = at-loop .before .before in
-    let s : List ℕ = start .args .file .now in let at : ℕ = start .args .at in let k : ℕ = at-loop .loop .k in
+    let s : List ℕ = start .args .file .now in
+    let at : ℕ = start .args .at in
+    let k : ℕ = at-loop .loop .k in
     let e : isNameByte (getD s (at + k) 0) ≡ false = ap isNameByte (sym (c .before .before .wide .ensures .0)) ∙ sym (c .before .is-name-byte .ensures) ∙ not-true _ (c .if1 .taken) in
     let z : nameLength (take (16 - k) (drop (at + k) s)) ≡ 0 = rw (field-next s at 16 k (omega arith) (omega arith)) (rw (e, nameLength)) in
     (omega (arith, at-loop .loop .inv .1), omega arith)
@@ -53,7 +55,9 @@ loop-again : tie.Need-loop-again Inv-loop μ-loop
 loop-again c =
     let at-loop = c .before .before .before .before .before in
     let start = at-loop .before .before in
-    let s : List ℕ = start .args .file .now in let at : ℕ = start .args .at in let k : ℕ = at-loop .loop .k in
+    let s : List ℕ = start .args .file .now in
+    let at : ℕ = start .args .at in
+    let k : ℕ = at-loop .loop .k in
     let e : isNameByte (getD s (at + k) 0) ≡ true = ap isNameByte (sym (c .before .before .wide .ensures .0)) ∙ sym (c .before .is-name-byte .ensures) ∙ not-false _ (c .if1 .left) in
     let z : nameLength (take (16 - k) (drop (at + k) s)) ≡ suc (nameLength (take (16 - (k + 1)) (drop (at + (k + 1)) s))) = rw (field-next s at 16 k (omega arith) (omega arith)) (rw (e, nameLength)) in
     (omega arith, omega (arith, at-loop .loop .inv .1))

@@ -30,7 +30,9 @@ all-zero-requires c κs = search needs
 
 returns-2 : tie.Need-returns-2
 returns-2 c =
-    let s : List ℕ = c .before .before .before .before .args .file .now in let at : ℕ = c .before .before .before .before .args .at in let k : ℕ = c .before .before .name-length .result in
+    let s : List ℕ = c .before .before .before .before .args .file .now in
+    let at : ℕ = c .before .before .before .before .args .at in
+    let k : ℕ = c .before .before .name-length .result in
     let l : List ℕ = take 16 (drop at s) in
     let e : nameLength l ≡ k = sym (c .before .before .name-length .ensures .0) in
     let h : 1 ≤ nameLength l = omega (arith, ne-zero k (c .before .if1 .left)) in

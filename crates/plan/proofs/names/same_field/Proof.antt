@@ -18,7 +18,8 @@ abbrev μ-loop : tie.MeasureT-loop
 
 loop-holds : tie.Need-loop-holds Inv-loop μ-loop
 loop-holds c =
-    let e : c .args .a + 0 ≡ c .args .a = omega arith in let f : c .args .b + 0 ≡ c .args .b = omega arith in
+    let e : c .args .a + 0 ≡ c .args .a = omega arith in
+    let f : c .args .b + 0 ≡ c .args .b = omega arith in
     (omega arith, rw (e, f))
 
 add-if1 : tie.Need-add-if1 Inv-loop μ-loop
@@ -37,7 +38,10 @@ returns : tie.Need-returns Inv-loop μ-loop
 returns c =
     let at-loop = c .before .before .before .before in
     let start = at-loop .before in
-    let s : List ℕ = start .args .file .now in let a : ℕ = start .args .a in let b : ℕ = start .args .b in let k : ℕ = at-loop .loop .k in
+    let s : List ℕ = start .args .file .now in
+    let a : ℕ = start .args .a in
+    let b : ℕ = start .args .b in
+    let k : ℕ = at-loop .loop .k in
     sym (at-loop .loop .inv .1 ∙ rw (field-next s a 16 k (omega arith) (omega arith), field-next s b 16 k (omega arith) (omega arith), ne-eqb (getD s (a + k) 0) (getD s (b + k) 0) (c .if1 .taken)))
 
 add-k : tie.Need-add-k Inv-loop μ-loop
@@ -50,7 +54,10 @@ loop-again : tie.Need-loop-again Inv-loop μ-loop
 loop-again c =
     let at-loop = c .before .before .before .before in
     let start = at-loop .before in
-    let s : List ℕ = start .args .file .now in let a : ℕ = start .args .a in let b : ℕ = start .args .b in let k : ℕ = at-loop .loop .k in
+    let s : List ℕ = start .args .file .now in
+    let a : ℕ = start .args .a in
+    let b : ℕ = start .args .b in
+    let k : ℕ = at-loop .loop .k in
     (omega arith, at-loop .loop .inv .1 ∙ rw (field-next s a 16 k (omega arith) (omega arith), field-next s b 16 k (omega arith) (omega arith), eq-eqb (getD s (a + k) 0) (getD s (b + k) 0) (c .if1 .left)))
 
 returns-2 : tie.Need-returns-2 Inv-loop μ-loop

@@ -108,7 +108,9 @@ loop-again c =
     let after-row-at = after-row .before .before in
     let at-loop = after-row-at .before .before in
     let start = at-loop .before .before .before in
-    let s : List ℕ = start .args .file .now in let i : ℕ = at-loop .loop .i in let g = after-row .row .given in
+    let s : List ℕ = start .args .file .now in
+    let i : ℕ = at-loop .loop .i in
+    let g = after-row .row .given in
     let e = rw (start .pre .rows) at (after-row-at .row-at .ensures) in let u = g .0 .0 in
     let b = row-good (taskOf s i) i u (sym (g .1) ∙ e) in
     let h : Holds (c .with-task .result) (tasksFrom s i 0 ++ (u ∷ [])) = c .with-task .ensures (tasksFrom s i 0) (at-loop .loop .inv .1 .1) in

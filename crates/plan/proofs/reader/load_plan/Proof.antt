@@ -83,7 +83,9 @@ returns-4 c =
     let else1 = after-decode-tasks .before in
     let after-known-told = else1 .before .before in
     let start = after-known-told .before .before .before .before .before in
-    let s : List ℕ = start .args .file .now in let k : ℕ = c .before .before .repeated-name .result in let d = after-decode-tasks .decode-tasks in
+    let s : List ℕ = start .args .file .now in
+    let k : ℕ = c .before .before .repeated-name .result in
+    let d = after-decode-tasks .decode-tasks in
     let e : sameNameFault s ≡ fault 11 k = rw (le-leb 1 k (ne-zero k (c .before .if3 .taken))) at (c .before .before .repeated-name .ensures) in
     loads-refused s 11 k (c .refused2 .result) (at-names s (areas after-known-told .1) (no-gap else1) (sym (d .ensures .number) ∙ else2 .if2 .left) ∙ rw e) (λ z. omega arith) (c .refused2 .ensures)
 

@@ -88,7 +88,9 @@ returns-3 : tie.Need-returns-3
 returns-3 c =
     let else2 = c .before .before .before in
     let start = else2 .before .before .before .before .before .before in
-    let s : List ℕ = start .args .file .now in let i : ℕ = start .args .task - 1 in let k : ℕ = c .before .name-length .result in
+    let s : List ℕ = start .args .file .now in
+    let i : ℕ = start .args .task - 1 in
+    let k : ℕ = c .before .name-length .result in
     let w : c .before .before .word4-at .result ≡ namesAt s = c .before .before .word4-at .ensures in
     let l : (nameStart s i + k) - nameStart s i ≡ k = omega arith in
     let e : k ≡ nameLength (nameField s i) = rw w at (c .before .name-length .ensures .0) in

@@ -48,7 +48,8 @@ loop-again c = (omega arith, below-more _ _ (c .before .before .before .loop .in
 
 returns-2 : tie.Need-returns-2 Inv-loop μ-loop
 returns-2 c =
-    let a = c .before .before .before .before .before .args in let T = timing (a .wcet .now) (a .deadline-cap .now) in
+    let a = c .before .before .before .before .before .args in
+    let T = timing (a .wcet .now) (a .deadline-cap .now) in
     sym (schedulable-first T (a .periods .now) (all-schedulable T (a .periods .now) (λ j h. c .before .loop .inv .1 j (omega arith))))
 
 pub first-missed-spec : {M : Type 1} → statement M
