@@ -6,11 +6,14 @@ mod layout; // layout.rt: header, areas and gaps
 mod names; // names.rt: name fields
 mod reader; // reader.rt: READ, NAME and the loading of a plan
 
-pub use reader::Loaded;
+// READ and NAME
 pub use reader::Read;
-pub use reader::load_plan;
 pub use reader::read_plan;
 pub use reader::task_name;
+
+// for the layers above
+pub use reader::Loaded;
+pub use reader::load_plan;
 pub use record::Plan;
 pub use record::Task;
 pub use words::between;

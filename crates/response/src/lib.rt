@@ -3,6 +3,11 @@ mod schedulability; // schedulability.rt: all tasks at once
 mod climb; // climb.rt: demand and response time of one task
 mod times; // times.rt: TIMES
 
+// TIMES
+pub use times::Times;
+pub use times::response_times;
+
+// for the layers above
 pub use climb::deadline_of;
 pub use climb::meets_deadline;
 pub use climb::response_from;
@@ -10,5 +15,3 @@ pub use climb::response_time;
 pub use climb::rounded_up;
 pub use schedulability::first_missed;
 pub use schedulability::is_schedulable;
-pub use times::Times;
-pub use times::response_times;
