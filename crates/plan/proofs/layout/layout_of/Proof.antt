@@ -8,7 +8,7 @@ use borrow.Author.Tests.{le-leb, ne-eqb}
 use lib.ListN.{length}
 use Rattle.plan.specs.Faults.{fault, none}
 use Rattle.plan.specs.Tasks.{rowWidth}
-use Rattle.plan.specs.Layout.{outside}
+use Rattle.plan.specs.Layout.{taskCount, rowsAt, outside}
 use Rattle.plan.specs.Files.{rowsFault, namesFault, headerFault}
 use Rattle.plan.proofs.Fields.{ne-zero}
 use Rattle.plan.proofs.Loading.{header, after-header, in-header}
@@ -70,10 +70,13 @@ outside-requires c κs = search needs
 rows-inside : (c : tie.Else2) → rowsFault (bytes (c .before .before .before .before .before)) ≡ none
 rows-inside c =
     let w = c .before .before in
+    let s = bytes (w .before .before .before) in
     let rows : ℕ = w .before .word4-at .result in
     let n : ℕ = w .before .before .word2-at .result in
-    let t : outside (length (bytes (w .before .before .before))) rows (rows + rowWidth * n) ≡ false = sym (c .before .outside .ensures) ∙ c .if2 .left in
-    rw (rw (w .before .word4-at .ensures, w .before .before .word2-at .ensures .0) at t)
+    let at-rows : rows ≡ rowsAt s = w .before .word4-at .ensures in
+    let tasks : n ≡ taskCount s = w .before .before .word2-at .ensures .0 in
+    let t : outside (length s) rows (rows + rowWidth * n) ≡ false = sym (c .before .outside .ensures) ∙ c .if2 .left in
+    rw (rw (at-rows, tasks) at t)
 
 names-inside : (c : tie.Else3) → namesFault (bytes (c .before .before .before .before .before .before .before)) ≡ none
 names-inside c = let w = c .before .before .before .before in rw (rw (w .word4-at2 .ensures, w .before .before .word2-at .ensures .0) at (sym (c .before .outside2 .ensures) ∙ c .if3 .left))
