@@ -16,7 +16,7 @@ abbrev bytes : tie.Else1 → List ℕ
 bytes c = c .before .before .args .file .now
 
 sized : (c : tie.Else2) → lengthFault (bytes (c .before)) ≡ none
-sized c = rw (le-leb 16 _ (c .before .if1 .left), le-leb _ 2048 (c .if2 .left))
+sized c = let s = bytes (c .before) in rw (le-leb 16 (length s) (omega arith), le-leb (length s) 2048 (omega arith))
 
 versioned : (c : tie.Else3) → versionFault (bytes (c .before .before .before)) ≡ none
 versioned c = rw (eq-eqb (version (bytes (c .before .before .before))) 1 (omega arith))
