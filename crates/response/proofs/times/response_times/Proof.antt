@@ -49,8 +49,10 @@ before-bounds c = c .before .before .before .before .before .before .before
 
 bounds : (c : tie.After-out-of-bounds) → let d = before-bounds c in let k = c .out-of-bounds .result in boundsFault (tasksOf (file d)) (periods d) ≡ faultIf (leb 1 k) 23 k
 bounds c =
-    let h = held (before-bounds c) in
-    rw (h .periodMin, h .periodMax, c .before .before .before .before .before .before .if2 .left ∙ h .count) at (c .out-of-bounds .ensures)
+    let d = before-bounds c in
+    let h = held d in
+    let n : length (periods d) ≡ length (tasksOf (file d)) = c .before .before .before .before .before .before .if2 .left ∙ h .count in
+    rw (h .periodMin, h .periodMax, n) at (c .out-of-bounds .ensures)
 
 no-bounds : (c : tie.Else4) → let d = before-bounds (c .before) in boundsFault (tasksOf (file d)) (periods d) ≡ none
 no-bounds c = let z : c .before .out-of-bounds .result ≡ 0 = omega (arith, c .if4 .left) in bounds (c .before) ∙ rw z
