@@ -4,8 +4,13 @@
 //! gives the same files. Exit status 0 when all agree and every number came.
 
 mod model;
+mod plans;
 
-use model::{Outcome, Task, TICK_MAX, WEIGHT_MAX};
+use model::{Outcome, Task};
+use plans::{
+    damaged_file, dearest_plan, encode, extreme_plan, infeasible_plan, loaded_plan, named, put, random_plan,
+    small_plan, sound_file, tight, Layout, Random, FILE_MAX,
+};
 use std::collections::BTreeSet;
 use std::process::exit;
 
@@ -15,287 +20,7 @@ extern "C" {
 
 const DEFAULT_SEED: u64 = 20_240_229;
 const BLOCK: usize = 100;
-const FILE_MAX: usize = 2_048;
 const TIME_LIMIT_SECONDS: u64 = 600;
-
-// Random numbers (splitmix64).
-
-struct Random(u64);
-
-impl Random {
-    fn next(&mut self) -> u64 {
-        self.0 = self.0.wrapping_add(0x9e37_79b9_7f4a_7c15);
-        let mut z = self.0;
-        z = (z ^ z >> 30).wrapping_mul(0xbf58_476d_1ce4_e5b9);
-        z = (z ^ z >> 27).wrapping_mul(0x94d0_49bb_1331_11eb);
-        z ^ z >> 31
-    }
-
-    /// From low to high, both included.
-    fn within(&mut self, low: u64, high: u64) -> u64 {
-        low + self.next() % (high - low + 1)
-    }
-
-    fn index(&mut self, length: usize) -> usize {
-        (self.next() % length as u64) as usize
-    }
-
-    fn chance(&mut self, one_in: u64) -> bool {
-        self.next() % one_in == 0
-    }
-
-    fn of<T: Copy>(&mut self, choices: &[T]) -> T {
-        choices[self.index(choices.len())]
-    }
-}
-
-// Plan files.
-
-#[derive(Clone)]
-struct Layout {
-    rows: usize,
-    names: usize,
-    total: usize,
-}
-
-fn put(file: &mut [u8], at: usize, value: u64, width: usize) {
-    file[at..at + width].copy_from_slice(&value.to_le_bytes()[..width]);
-}
-
-fn encode(tasks: &[Task], layout: &Layout) -> Vec<u8> {
-    let mut file = vec![0; layout.total];
-    put(&mut file, 0, 1, 2);
-    put(&mut file, 2, tasks.len() as u64, 2);
-    put(&mut file, 4, layout.rows as u64, 4);
-    put(&mut file, 8, layout.names as u64, 4);
-    put(&mut file, 12, layout.total as u64, 4);
-    for (i, task) in tasks.iter().enumerate() {
-        let fields = [task.wcet, task.period_min, task.period_max, task.deadline_cap, task.weight];
-        for (k, field) in fields.iter().enumerate() {
-            put(&mut file, layout.rows + 20 * i + 4 * k, *field, 4);
-        }
-        file[layout.names + 16 * i..layout.names + 16 * i + 16].copy_from_slice(&task.name);
-    }
-    file
-}
-
-/// Either order of the areas; without gaps, with small ones, or filling the
-/// longest file there is.
-fn layout(random: &mut Random, n: usize) -> Layout {
-    let names_first = random.chance(2);
-    let (first, second) = if names_first { (16 * n, 20 * n) } else { (20 * n, 16 * n) };
-    let mut spare = match random.index(8) {
-        0..=3 => 0,
-        4..=6 => random.index(40),
-        _ => FILE_MAX - 16 - 36 * n,
-    };
-    let mut gap = |random: &mut Random| {
-        let gap = if random.chance(3) { 0 } else { random.index(spare + 1) };
-        spare -= gap;
-        gap
-    };
-    let at_first = 16 + gap(random);
-    let at_second = at_first + first + gap(random);
-    let total = at_second + second + spare;
-    let (rows, names) = if names_first { (at_second, at_first) } else { (at_first, at_second) };
-    Layout { rows, names, total }
-}
-
-const LETTERS: &[u8] = b"ABCDEFGHIJKLMNOPQRSTUVWXYZabcdefghijklmnopqrstuvwxyz0123456789-";
-
-fn name(random: &mut Random) -> [u8; 16] {
-    let mut name = [0; 16];
-    for at in 0..random.within(1, 16) as usize {
-        name[at] = random.of(LETTERS);
-    }
-    name
-}
-
-/// Names that differ, some only in their last letter or by one letter more.
-fn name_all(random: &mut Random, tasks: &mut [Task]) {
-    for i in 0..tasks.len() {
-        loop {
-            let mut candidate = name(random);
-            if i > 0 && random.chance(4) {
-                candidate = tasks[random.index(i)].name;
-                let length = candidate.iter().position(|&b| b == 0).unwrap_or(16);
-                candidate[length.min(15)] = random.of(LETTERS);
-            }
-            if tasks[..i].iter().all(|task| task.name != candidate) {
-                tasks[i].name = candidate;
-                break;
-            }
-        }
-    }
-}
-
-fn task(wcet: u64, period_min: u64, period_max: u64, deadline_cap: u64, weight: u64) -> Task {
-    Task { wcet, period_min, period_max, deadline_cap, weight, name: [0; 16] }
-}
-
-// Plans.
-
-/// A plan small enough to try every assignment.
-fn small_plan(random: &mut Random) -> Vec<Task> {
-    let n = random.within(1, 4);
-    let work = random.within(1, 5);
-    let weight = random.of(&[0, 1, 3, WEIGHT_MAX]);
-    (0..n)
-        .map(|i| {
-            let wcet = random.within(1, work);
-            let period_min = random.within(1, wcet + 2 * i + 1);
-            let width = random.within(0, if n == 4 { 4 } else { 8 });
-            let cap = if random.chance(3) { random.within(1, 14) } else { random.of(&[1_000, TICK_MAX]) };
-            task(wcet, period_min, period_min + width + i, cap, random.within(0, weight))
-        })
-        .collect()
-}
-
-/// A plan after source document 001, section 7.2, with bounds of several widths.
-fn random_plan(random: &mut Random, n: u64) -> Vec<Task> {
-    let work = random.of(&[3, 20, 100]);
-    let wcets: Vec<u64> = (0..n).map(|_| random.within(1, work)).collect();
-    let sum: u64 = wcets.iter().sum();
-    let times = random.within(1, 5);
-    let tight_caps = random.chance(3);
-    wcets
-        .iter()
-        .map(|&wcet| {
-            let period_max = (times * sum).max(wcet);
-            let period_min = match random.index(4) {
-                0 => 1,
-                1 => wcet,
-                2 => period_max - random.within(0, period_max / 4),
-                _ => random.within(1, period_max),
-            };
-            let cap = if tight_caps { random.within(wcet, 2 * sum + wcet) } else { TICK_MAX };
-            task(wcet, period_min, period_max.max(period_min), cap, random.within(0, WEIGHT_MAX))
-        })
-        .collect()
-}
-
-/// Low bounds just below the sum of all work, where equal periods would be
-/// schedulable: long searches with many children a round.
-fn loaded_plan(random: &mut Random, n: u64, percent: u64, even_weights: bool) -> Vec<Task> {
-    let wcets: Vec<u64> = (0..n).map(|_| random.within(1, 20)).collect();
-    let sum: u64 = wcets.iter().sum();
-    wcets
-        .iter()
-        .map(|&wcet| {
-            let weight = if even_weights { 1 } else { random.within(0, WEIGHT_MAX) };
-            task(wcet, (sum * percent / 100).max(1), 2 * sum, TICK_MAX, weight)
-        })
-        .collect()
-}
-
-/// Fields at and next to their limits. Few tasks: a climb by single ticks to
-/// 1,000,000 is slow for everyone.
-fn extreme_plan(random: &mut Random) -> Vec<Task> {
-    let n = random.within(1, 3);
-    let ticks = [1, 2, 3, 499_999, 500_000, 500_001, TICK_MAX - 1, TICK_MAX];
-    (0..n)
-        .map(|_| {
-            let (a, b) = (random.of(&ticks), random.of(&ticks));
-            let cap = if random.chance(2) { TICK_MAX } else { random.of(&ticks) };
-            let weight = random.of(&[0, 1, WEIGHT_MAX - 1, WEIGHT_MAX]);
-            task(random.of(&ticks[..7]), a.min(b), a.max(b), cap, weight)
-        })
-        .collect()
-}
-
-/// Sixteen tasks whose k-th is the first that cannot meet its deadline: alone
-/// (31) or under those above it (32).
-fn infeasible_plan(random: &mut Random) -> Vec<Task> {
-    let mut tasks: Vec<Task> = (0..16).map(|_| task(2, random.within(1, 40), 40, 1_000, 1)).collect();
-    let k = random.index(16) as u64;
-    let broken = &mut tasks[k as usize];
-    if random.chance(2) {
-        broken.wcet = random.within(3, 9);
-        broken.deadline_cap = random.within(1, broken.wcet - 1);
-    } else if k > 0 {
-        broken.deadline_cap = random.within(2, 2 * k + 1);
-    }
-    tasks
-}
-
-// Damage.
-
-/// Damages a file in one place, so that mostly one rule is broken; the layout is
-/// that of the sound file, which other damage may have made untrue.
-fn damage(random: &mut Random, file: &mut Vec<u8>, layout: &Layout, n: usize) {
-    if file.len() < layout.total {
-        return;
-    }
-    let (rows, names, total) = (layout.rows, layout.names, layout.total as u64);
-    let i = random.index(n);
-    let wild = [0, 1, 15, 16, 17, total, 0x7fff_ffff, 0x8000_0000, 0xffff_fff0, 0xffff_ffff];
-    let any = random.of(&wild);
-    match random.index(18) {
-        0 => file.truncate(random.index(file.len() + 1)),
-        1 => file.truncate(random.index(17)),
-        2 => {
-            let length = random.of(&[file.len() + 1, file.len() + 7, FILE_MAX, FILE_MAX + 1, 3_000]);
-            file.resize(length.max(file.len()), random.of(&[0, 1]));
-            if random.chance(2) {
-                let length = file.len() as u64;
-                put(file, 12, length, 4);
-            }
-        }
-        3 => put(file, 0, random.of(&[0, 2, 3, 256, 257, 0xffff]), 2),
-        4 => put(file, 2, random.of(&[0, 17, 256, 257, 0xffff, n as u64 - 1, n as u64 + 1]), 2),
-        5 => put(file, 12, random.of(&[total - 1, total + 1, total + 65_536, 0, 0xffff_ffff]), 4),
-        6 => {
-            let last = total - 20 * n as u64;
-            put(file, 4, random.of(&[any, last - 1, last, last + 1]), 4);
-        }
-        7 => {
-            let last = total - 16 * n as u64;
-            put(file, 8, random.of(&[any, last - 1, last, last + 1]), 4);
-        }
-        8 => put(file, 4, (names + random.index(40)).saturating_sub(20) as u64, 4),
-        9 => put(file, 8, (rows + random.of(&[0, 20 * n])) as u64 + random.within(0, 2) - 1, 4),
-        10 | 11 => {
-            // Gap bytes: the first, the last or any.
-            let areas = [rows..rows + 20 * n, names..names + 16 * n];
-            let gaps: Vec<usize> =
-                (16..layout.total).filter(|at| !areas.iter().any(|area| area.contains(at))).collect();
-            if let (Some(&first), Some(&last)) = (gaps.first(), gaps.last()) {
-                let any = random.of(&gaps);
-                file[random.of(&[first, last, any])] = random.of(&[1, 0x80, 0xff]);
-            }
-        }
-        12 => {
-            let k = random.index(5);
-            let limit = if k == 4 { WEIGHT_MAX } else { TICK_MAX };
-            put(file, rows + 20 * i + 4 * k, random.of(&[0, limit, limit + 1, 0x8000_0001, 0xffff_ffff]), 4);
-        }
-        13 => {
-            let low = random.within(2, 50);
-            put(file, rows + 20 * i + 4, low, 4);
-            put(file, rows + 20 * i + 8, low - 1, 4);
-        }
-        14 => {
-            // Any byte in any place of a name.
-            let (at, byte) = (names + 16 * i + random.index(16), random.next() as u8);
-            file[at] = if random.chance(2) { byte } else { random.of(b"\0_ @[`{/:.,") };
-        }
-        15 => {
-            let of = random.index(n);
-            file.copy_within(names + 16 * of..names + 16 * of + 16, names + 16 * i);
-        }
-        16 => {
-            for _ in 0..random.within(1, 8) {
-                let at = random.index(file.len());
-                file[at] ^= 1 << random.index(8);
-            }
-        }
-        _ => {
-            let from = random.index(file.len());
-            let to = (from + random.index(24)).min(file.len());
-            file[from..to].fill_with(|| random.next() as u8);
-        }
-    }
-}
 
 // The call, between guards.
 
@@ -449,10 +174,8 @@ fn demands_hold(outcome: &Outcome, least: &Option<model::Node>, count: u64, budg
 
 fn small_plans(comparison: &mut Comparison, random: &mut Random, count: u64) {
     for _ in 0..count {
-        let mut tasks = small_plan(random);
-        name_all(random, &mut tasks);
-        let layout = layout(random, tasks.len());
-        let file = encode(&tasks, &layout);
+        let tasks = small_plan(random);
+        let file = sound_file(random, &tasks);
         let (least, assignments) = by_trying_all(&tasks);
         comparison.files += 1;
         for budget in
@@ -475,19 +198,7 @@ fn small_plans(comparison: &mut Comparison, random: &mut Random, count: u64) {
 
 fn damaged_files(comparison: &mut Comparison, random: &mut Random, count: u64) {
     for _ in 0..count {
-        let n = if random.chance(2) { random.within(1, 4) } else { random.within(1, 16) } as usize;
-        let mut tasks: Vec<Task> = (0..n)
-            .map(|_| {
-                let (wcet, period_min) = (random.within(1, 3), random.within(1, 30));
-                task(wcet, period_min, period_min + random.within(0, 40), 200, random.within(0, WEIGHT_MAX))
-            })
-            .collect();
-        name_all(random, &mut tasks);
-        let layout = layout(random, n);
-        let mut file = encode(&tasks, &layout);
-        for _ in 0..random.of(&[1, 1, 1, 2, 4]) {
-            damage(random, &mut file, &layout, n);
-        }
+        let file = damaged_file(random);
         let budget = random.of(&[0, 1, 2, 5]);
         comparison.file(random, &file, &[budget]);
         if random.chance(200) {
@@ -505,24 +216,14 @@ fn sound_plans(
     budgets: impl Fn(&mut Random) -> Vec<u64>,
 ) {
     for _ in 0..count {
-        let mut tasks = plan(random);
-        name_all(random, &mut tasks);
-        let layout = layout(random, tasks.len());
-        let file = encode(&tasks, &layout);
+        let tasks = plan(random);
+        let file = sound_file(random, &tasks);
         let budgets = budgets(random);
         comparison.file(random, &file, &budgets);
     }
 }
 
 // Document 01's own numbers.
-
-fn named(rows: &[(u64, u64, u64, u64, u64)]) -> Vec<Task> {
-    let mut tasks: Vec<Task> = rows.iter().map(|row| task(row.0, row.1, row.2, row.3, row.4)).collect();
-    for (i, task) in tasks.iter_mut().enumerate() {
-        task.name[0] = b'a' + i as u8;
-    }
-    tasks
-}
 
 fn plan_p() -> Vec<Task> {
     named(&[(1, 1, 6, 1_000, 1), (2, 1, 8, 1_000, 1)])
@@ -574,8 +275,6 @@ fn examples() {
 /// Plans made by hand: plan S, which must stop with 34, the dearest answer
 /// (16,000,000,000) and the smallest and longest files.
 fn chosen_files(comparison: &mut Comparison, random: &mut Random) {
-    let tight = |n: usize| Layout { rows: 16, names: 16 + 20 * n, total: 16 + 36 * n };
-
     let s = encode(&plan_s(), &tight(6));
     comparison.files += 1;
     let outcome = comparison.check(random, &s, u64::MAX);
@@ -589,7 +288,7 @@ fn chosen_files(comparison: &mut Comparison, random: &mut Random) {
     comparison.file(random, &p, &[0, 1, 2, 3, 4, 5, 100_000, 1 << 32, (1 << 32) + 3, 1 << 63, u64::MAX]);
     comparison.check_lengths(random, &p);
 
-    let dearest = named(&[(62_500, TICK_MAX, TICK_MAX, TICK_MAX, WEIGHT_MAX); 16]);
+    let dearest = dearest_plan();
     let file = encode(&dearest, &Layout { rows: 16, names: FILE_MAX - 256, total: FILE_MAX });
     comparison.files += 1;
     let outcome = comparison.check(random, &file, 1);
