@@ -1,9 +1,11 @@
 //! Document 01 once more, in plain Rust: the file rules, the exact test of
-//! Lehoczky, Sha and Ding, the step rule and the desk's block. It follows the
-//! document sentence by sentence and is 64 bits wide throughout; nothing here
-//! is shared with what it checks.
+//! Lehoczky, Sha and Ding, the step rule, the desk's block and the listing. It
+//! follows the document sentence by sentence and is 64 bits wide throughout;
+//! nothing here is shared with what it checks.
 
 pub const WORK_SPACE: u64 = 16_000;
+const LISTING_BUDGET: u64 = 100_000;
+const LISTING_READS: usize = 2_049;
 pub const TICK_MAX: u64 = 1_000_000;
 pub const WEIGHT_MAX: u64 = 1_000;
 
@@ -110,9 +112,13 @@ fn read_task(file: &[u8], row: u64, name_at: u64, place: u32) -> Result<Task, Re
     Ok(task)
 }
 
+fn name_length(name: &[u8; 16]) -> usize {
+    name.iter().position(|&byte| byte == 0).unwrap_or(16)
+}
+
 /// 1 to 16 of A-Z, a-z, 0-9 and hyphen, then zero bytes to the end.
 fn is_name(name: &[u8; 16]) -> bool {
-    let length = name.iter().position(|&byte| byte == 0).unwrap_or(16);
+    let length = name_length(name);
     length >= 1
         && name[..length].iter().all(|byte| byte.is_ascii_alphanumeric() || *byte == b'-')
         && name[length..].iter().all(|&byte| byte == 0)
@@ -256,4 +262,29 @@ pub fn block(outcome: &Outcome) -> [u8; 100] {
         block[36 + 4 * i..40 + 4 * i].copy_from_slice(&(*period as u32).to_le_bytes());
     }
     block
+}
+
+/// What program `timetable` prints for these bytes on its standard input.
+pub fn listing(input: &[u8]) -> String {
+    let tasks = match read(&input[..input.len().min(LISTING_READS)]) {
+        Ok(tasks) => tasks,
+        Err((number, place)) => return format!("refused {number} {place}\n"),
+    };
+    let Outcome { number, place, cost, rounds, bound, periods, .. } = cheapest(&tasks, LISTING_BUDGET, WORK_SPACE);
+    match number {
+        0 => format!("cost {cost} rounds {rounds}\n") + &lines(&tasks, &periods),
+        33 | 34 => format!("refused {number} {place} bound {bound} rounds {rounds}\n"),
+        _ => format!("refused {number} {place}\n"),
+    }
+}
+
+/// One line a task, in order: name, period, response time.
+fn lines(tasks: &[Task], periods: &[u64]) -> String {
+    let line = |i: usize| {
+        let letters = &tasks[i].name[..name_length(&tasks[i].name)];
+        let name = std::str::from_utf8(letters).expect("a name that was read");
+        let time = response_time(tasks, periods, i).expect("an answer's tasks are on time");
+        format!("{name} {} {time}\n", periods[i])
+    };
+    (0..tasks.len()).map(line).collect()
 }
