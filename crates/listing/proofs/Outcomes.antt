@@ -7,13 +7,13 @@ use Prim.Native.Nat.{ℕ, _+_, _≤_, _<_}
 use native.Mathlib.Omega.{arith}
 use lib.ListN.{length, getD}
 use lib.Seq.{sets-eq, length-sets, length-take-le}
-use borrow.Author.Tests.{eq-eqb, ne-eqb, lt-ltb, le-ltb, le-leb}
+use borrow.Author.Tests.{eq-eqb, ne-eqb, lt-ltb, le-ltb}
 use Rattle.plan.specs.declared.record.Task.{Task}
 use Rattle.plan.specs.Faults.{passed}
 use Rattle.plan.specs.Tasks.{between, periodMins, periodMaxs}
 use Rattle.plan.specs.Layout.{taskCount}
 use Rattle.plan.specs.Files.{accepted, tasksOf, tasksRead}
-use Rattle.plan.proofs.Tests.{bool, eq-or-ne, and-both}
+use Rattle.plan.proofs.Tests.{bool, eq-or-ne, le-between}
 use Rattle.plan.proofs.Rules.{run-some}
 use Rattle.plan.proofs.Accepted.{tasks-length}
 use Rattle.response.specs.declared.times.Times.{Times}
@@ -37,7 +37,7 @@ bounds-kept ts xs w = elim (eq-or-ne (boundsFault ts xs .number) 0) [
   | inl z ↦ z
   | inr z ↦ let r = run-some (boundFault (periodMins ts) (periodMaxs ts) xs) (length ts) 0 z in
       let k : ℕ = r .0 in
-      let b : between (getD (periodMins ts) k 0) (getD xs k 0) (getD (periodMaxs ts) k 0) ≡ true = and-both (le-leb _ _ (w .low k)) (le-leb _ _ (w .high k)) in
+      let b : between (getD (periodMins ts) k 0) (getD xs k 0) (getD (periodMaxs ts) k 0) ≡ true = le-between (getD (periodMins ts) k 0) (getD xs k 0) (getD (periodMaxs ts) k 0) (w .low k) (w .high k) in
       absurd (z (ap (λ f. f .number) (r .1 .1) ∙ rw b))
 ]
 

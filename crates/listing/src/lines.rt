@@ -1,6 +1,6 @@
 ghost use mathlib.Core.Path.{_≡_};
-ghost use mathlib.Core.List.{List, [], _∷_};
-ghost use Prim.Native.Nat.{ℕ, _+_, _*_, _≤_};
+ghost use mathlib.Core.List.{[], _∷_};
+ghost use Prim.Native.Nat.{_+_, _*_, _≤_};
 ghost use lib.ListN.{length};
 ghost use Rattle.plan.specs.Tasks.{maxTasks};
 ghost use Rattle.listing.specs.Text.{fields, line, decimal, roundsWord, refusedWord, taskLines};

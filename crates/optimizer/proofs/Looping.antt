@@ -56,21 +56,19 @@ module _ {ts : List Task} {wcet caps mins maxs ws : List ℕ} (g : ColumnsOf ts 
 
 -- count open nodes at the front of the work space, of so many numbers
 pub record Looping (wcet caps mins maxs ws : List ℕ) (budget room size : ℕ) (work : List ℕ) (count rounds : ℕ) : Type 0 where
-  pub tasks : List Task
-  pub are : ColumnsOf tasks wcet caps mins maxs ws
-  pub top : schedulable (timing wcet caps) maxs ≡ true
+  pub given : Searchable wcet caps mins maxs ws
   pub fits : room * length ws ≤ size
   pub few : count ≤ room
   pub long : length work ≡ size
-  running : Running tasks (schedulable (timing wcet caps)) budget room rounds (nodes count (length ws) work)
+  running : Running (given .tasks) (schedulable (timing wcet caps)) budget room rounds (nodes count (length ws) work)
 
 pub begins : {wcet caps mins maxs ws work : List ℕ} {budget room size : ℕ} → Searchable wcet caps mins maxs ws → room * length ws ≤ size → 1 ≤ room → length work ≡ size → take (length ws) work ≡ mins
     → Looping wcet caps mins maxs ws budget room size work 1 0
-begins {budget = budget} {room} s f h l e = record { tasks = s .tasks; are = s .are; top = s .top; fits = f; few = h; long = l; running = rw (e, s .are .mins-is) (running-start (sound-test (s .are)) budget room) }
+begins {budget = budget} {room} s f h l e = record { given = s; fits = f; few = h; long = l; running = rw (e, s .are .mins-is) (running-start (sound-test (s .are)) budget room) }
 
 module _ {wcet caps mins maxs ws : List ℕ} {budget room size : ℕ} {work : List ℕ} {count rounds : ℕ} (r : Looping wcet caps mins maxs ws budget room size work count rounds) where
   abbrev ts : List Task
-  ts = r .tasks
+  ts = r .given .tasks
 
   abbrev test : List ℕ → Bool
   test = schedulable (timing wcet caps)
@@ -79,38 +77,38 @@ module _ {wcet caps mins maxs ws : List ℕ} {budget room size : ℕ} {work : Li
   target = search (problem test mins maxs ws) budget room
 
   monotone : Sound ts test
-  monotone = sound-test (r .are)
+  monotone = sound-test (r .given .are)
 
   feasible : test (periodMaxs ts) ≡ true
-  feasible = rw (r .are .maxs-is) at (r .top)
+  feasible = rw (r .given .are .maxs-is) at (r .given .top)
 
   pub some-open : 1 ≤ count
   some-open = omega (arith, running-some monotone feasible (r .running), length-nodes count (length ws) work)
 
   pub all-open : Open ws work count
-  all-open = record { few = omega (arith, r .are .few, width (r .are) .3); light = light (r .are); fits = omega (arith, r .long, r .fits, mul-le-mul-right (length ws) (r .few)) }
+  all-open = record { few = omega (arith, r .given .are .few, width (r .given .are) .3); light = light (r .given .are); fits = omega (arith, r .long, r .fits, mul-le-mul-right (length ws) (r .few)) }
 
   over-target : target ≡ search (over ts test) budget room
-  over-target = over-tasks (r .are) budget room
+  over-target = over-tasks (r .given .are) budget room
 
   pub ends-spent : budget ≤ rounds → target ≡ ended 33 [] rounds (cost ws (leastOf ws (nodes count (length ws) work))) tt
-  ends-spent h = over-target ∙ running-spent monotone feasible (r .running) refl h ∙ ap (λ (w : List ℕ). ended 33 [] rounds (cost w (leastOf w (nodes count (length ws) work))) tt) (sym (r .are .weights-is))
+  ends-spent h = over-target ∙ running-spent monotone feasible (r .running) refl h ∙ ap (λ (w : List ℕ). ended 33 [] rounds (cost w (leastOf w (nodes count (length ws) work))) tt) (sym (r .given .are .weights-is))
 
   module _ {v p : List ℕ} (t : Taken ws count work v p) where
     abbrev node : List ℕ
     node = take (length ws) p
 
     is-least : node ≡ leastOf (weights ts) (nodes count (length ws) work)
-    is-least = t .least ∙ ap (λ (w : List ℕ). leastOf w (nodes count (length ws) work)) (r .are .weights-is)
+    is-least = t .least ∙ ap (λ (w : List ℕ). leastOf w (nodes count (length ws) work)) (r .given .are .weights-is)
 
     within : Within ts node
     within = running-within monotone feasible (r .running) is-least
 
     pub node-limits : Limits wcet node
-    node-limits = rw (r .are .wcet-is) (limits-within (r .are .sane) (r .are .few) within)
+    node-limits = rw (r .given .are .wcet-is) (limits-within (r .given .are .sane) (r .given .are .few) within)
 
     pub node-priced : Priced ws node
-    node-priced = record { few = omega (arith, within .sized, r .are .few); sized = t .sized; light = light (r .are) }
+    node-priced = record { few = omega (arith, within .sized, r .given .are .few); sized = t .sized; light = light (r .given .are) }
 
     module _ (h : rounds < budget) where
       pub ends-answer : test node ≡ true → target ≡ ended 0 node (rounds + 1) 0 tt
@@ -119,10 +117,10 @@ module _ {wcet caps mins maxs ws : List ℕ} {budget room size : ℕ} {work : Li
       module _ (e : test node ≡ false) (l : length v ≡ length work) where
         pub node-fails : Unschedulable wcet caps maxs node
         node-fails = record {
-          columns = record { limits = node-limits; capped = omega (arith, width (r .are)) };
-          sized = omega (arith, width (r .are), within .sized);
-          high = λ k. rw (r .are .maxs-is) (within .high k);
-          most = λ k. rw (r .are .maxs-is) (sane-at (r .are .sane) k .max-most);
+          columns = record { limits = node-limits; capped = omega (arith, width (r .given .are)) };
+          sized = omega (arith, width (r .given .are), within .sized);
+          high = λ k. rw (r .given .are .maxs-is) (within .high k);
+          most = λ k. rw (r .given .are .maxs-is) (sane-at (r .given .are .sane) k .max-most);
           fails = e;
         }
 
@@ -136,20 +134,20 @@ module _ {wcet caps mins maxs ws : List ℕ} {budget room size : ℕ} {work : Li
         u = mua test maxs node
 
         u-is : u ≡ mua test (periodMaxs ts) node
-        u-is = ap (λ (m : List ℕ). mua test m node) (r .are .maxs-is)
+        u-is = ap (λ (m : List ℕ). mua test m node) (r .given .are .maxs-is)
 
         abbrev kids : List (List ℕ)
         kids = childrenFrom (length node) (periodMaxs ts) node u 0
 
         pub node-above : Above node u
-        node-above = let f = mua-above (r .are) within e in record { sized = f .within .sized ∙ sym (within .sized); above = f .above }
+        node-above = let f = mua-above (r .given .are) within e in record { sized = f .within .sized ∙ sym (within .sized); above = f .above }
 
         rest-is : SameNodes others (without (leastOf (weights ts) (nodes count (length ws) work)) (nodes count (length ws) work))
-        rest-is q = t .rest q ∙ ap (λ (w : List ℕ). occurrences q (without (leastOf w (nodes count (length ws) work)) (nodes count (length ws) work))) (r .are .weights-is)
+        rest-is q = t .rest q ∙ ap (λ (w : List ℕ). occurrences q (without (leastOf w (nodes count (length ws) work)) (nodes count (length ws) work))) (r .given .are .weights-is)
 
         module _ {w : List ℕ} {x : Listing} (y : Lists maxs node u (count - 1) room v w x) where
           kept-is : keptChildren maxs node u (count - 1) v ≡ kept kids others
-          kept-is = ap (λ (m : List ℕ). kept (childrenFrom (length node) m node u 0) (nodes (count - 1) (length node) v)) (r .are .maxs-is) ∙ ap (λ m. kept kids (nodes (count - 1) m v)) (t .sized)
+          kept-is = ap (λ (m : List ℕ). kept (childrenFrom (length node) m node u 0) (nodes (count - 1) (length node) v)) (r .given .are .maxs-is) ∙ ap (λ m. kept kids (nodes (count - 1) m v)) (t .sized)
 
           total : openAfter maxs node u (count - 1) v ≡ length others + length (kept kids others)
           total = omega (arith, ap length kept-is, length-nodes (count - 1) (length ws) v)
@@ -157,7 +155,7 @@ module _ {wcet caps mins maxs ws : List ℕ} {budget room size : ℕ} {work : Li
           pub ends-full : x ≡ Full → target ≡ ended 34 [] (rounds + 1) (cost ws node) tt
           ends-full f =
               let b = ltb-true room _ (rw total at (listing-full (ltb room (openAfter maxs node u (count - 1) v)) _ (y .outcome) f)) in
-              rw (add-one rounds) (over-target ∙ running-full monotone feasible (r .running) is-least h e u-is others rest-is b ∙ ap (λ (q : List ℕ). ended 34 [] (suc rounds) (cost q node) tt) (sym (r .are .weights-is)))
+              rw (add-one rounds) (over-target ∙ running-full monotone feasible (r .running) is-least h e u-is others rest-is b ∙ ap (λ (q : List ℕ). ended 34 [] (suc rounds) (cost q node) tt) (sym (r .given .are .weights-is)))
 
           pub goes-on : {c : ℕ} → x ≡ Listed c → length w ≡ length v → Looping wcet caps mins maxs ws budget room size w c (rounds + 1)
           goes-on {c} f m =
@@ -170,9 +168,7 @@ module _ {wcet caps mins maxs ws : List ℕ} {budget room size : ℕ} {work : Li
               ∙ ap (λ k. nodes (count - 1) k v ++ kept kids others) (t .sized) in
               let i = ltb-false room (openAfter maxs node u (count - 1) v) (b .0) in
               record {
-                tasks = ts;
-                are = r .are;
-                top = r .top;
+                given = r .given;
                 fits = r .fits;
                 few = omega arith;
                 long = m ∙ l ∙ r .long;

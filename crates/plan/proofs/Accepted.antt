@@ -1,6 +1,6 @@
 -- What is true of an accepted file: its areas, its tasks within their limits, its names.
 use mathlib.Core.Path.{_≡_, sym, _∙_}
-use mathlib.Core.Bool.{true, false, _&&_, not, cond, true≢false}
+use mathlib.Core.Bool.{true, false, _&&_, not, true≢false}
 use mathlib.Core.Logic.{inl, inr}
 use mathlib.Core.List.{List, [], _∷_}
 use Prim.Native.Nat.{ℕ, zero, suc, _+_, _-_, _≤_, _<_}
@@ -19,7 +19,7 @@ use Rattle.plan.specs.Names.{nameStart, nameField, nameOk}
 use Rattle.plan.specs.Files.{taskOf, rowFault, taskFault, layoutFault, gapFault, tasksFault, sameNameFault, fileFault, accepted, tasksFrom, tasksOf, tasksRead, isNamed}
 use Rattle.plan.specs.Inner.{areasOf, AreasOf, nameLength}
 use Rattle.plan.specs.Promises.{Names, Loads}
-use Rattle.plan.proofs.Tests.{bool, and-left, and-right}
+use Rattle.plan.proofs.Tests.{bool, and-left, and-right, between-le}
 use Rattle.plan.proofs.Rules.{or-first, or-second, if-passed, run-passed}
 use Rattle.plan.proofs.Fields.{name-is, name-length-le, name-some}
 use Rattle.plan.proofs.Decoding.{tasks-count}
@@ -35,9 +35,6 @@ pub record Sane (t : Task) : Type 0 where
   pub cap-some : 1 ≤ t .«deadline_cap»
   pub cap-most : t .«deadline_cap» ≤ maxTicks
   pub weight-most : t .weight ≤ maxWeight
-
-between-le : (low x high : ℕ) → between low x high ≡ true → (low ≤ x) × (x ≤ high)
-between-le low x high e = (leb-true low x (and-left (leb low x) (leb x high) e), leb-true x high (and-right (leb low x) (leb x high) e))
 
 sane : (t : Task) (i : ℕ) → rowFault t i .number ≡ 0 → Sane t
 sane t i e =

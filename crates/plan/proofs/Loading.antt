@@ -5,9 +5,9 @@ use mathlib.Core.Logic.{inl, inr}
 use mathlib.Core.List.{List, [], _∷_}
 use Prim.Native.Nat.{ℕ, suc, _-_, _≤_}
 use native.Mathlib.Omega.{arith}
-use lib.Dec.{eqb, ltb, leb}
+use lib.Dec.{eqb, ltb}
 use lib.ListN.{length}
-use borrow.Author.Tests.{eq-eqb, ne-eqb, eqb-true, eqb-false, leb-true, ltb-false, not-false}
+use borrow.Author.Tests.{eq-eqb, ne-eqb, eqb-true, eqb-false, ltb-false, not-false}
 use Rattle.plan.specs.declared.layout.Areas.{Areas}
 use Rattle.plan.specs.declared.layout.Layout.the-variants.{Located, Broken}
 use Rattle.plan.specs.declared.reader.Loaded.{Loaded}
@@ -18,7 +18,7 @@ use Rattle.plan.specs.Names.{nameField, nameOk, namedEarlier}
 use Rattle.plan.specs.Files.{lengthFault, versionFault, countFault, totalFault, rowsFault, namesFault, overlapFault, headerFault, areasFault, layoutFault, isStray, strayFault, gapFault, taskOf, rowFault, taskFault, tasksFault, repeatFault, sameNameFault, fileFault}
 use Rattle.plan.specs.Inner.{areasOf, laidOut, layoutNumber, layoutPlace, AreasOf, Refuses, Decodes}
 use Rattle.plan.specs.Promises.{Loads}
-use Rattle.plan.proofs.Tests.{bool, and-left, and-right}
+use Rattle.plan.proofs.Tests.{bool, between-le}
 use Rattle.plan.proofs.Rules.{or-next, or-here, or-first, or-second, if-passed, run-none, if-le, or-le, run-le}
 
 or-left : (a b : Bool) → (a || b) ≡ false → a ≡ false
@@ -31,8 +31,7 @@ or-right false b e = e
 
 in-range : (low x high : ℕ) (n p : ℕ) → faultIf (not (between low x high)) (suc n) p .number ≡ 0 → (low ≤ x) × (x ≤ high)
 in-range low x high n p e =
-    let b = not-false (between low x high) (if-passed (not (between low x high)) n p e) in
-    (leb-true low x (and-left (leb low x) (leb x high) b), leb-true x high (and-right (leb low x) (leb x high) b))
+    between-le low x high (not-false (between low x high) (if-passed (not (between low x high)) n p e))
 
 inside : (total start end : ℕ) (n p : ℕ) → faultIf (outside total start end) (suc n) p .number ≡ 0 → (16 ≤ start) × (end ≤ total)
 inside total start end n p e =

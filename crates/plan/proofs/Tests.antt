@@ -4,7 +4,8 @@ use mathlib.Core.Bool.{Bool, true, false, _&&_, _||_, true≢false, false≢true
 use mathlib.Core.Logic.{_⊎_, inl, inr}
 use Prim.Native.Nat.{ℕ, _≤_, _<_}
 use lib.Dec.{eqb, leb}
-use borrow.Author.Tests.{leb-true, leb-false, eqb-true, eqb-false}
+use borrow.Author.Tests.{leb-true, leb-false, eqb-true, eqb-false, le-leb}
+use Rattle.plan.specs.Tasks.{between}
 
 -- cases, to be taken apart in place: elim (bool t) [ inl e ↦ .. | inr e ↦ .. ]
 pub bool : (t : Bool) → (t ≡ true) ⊎ (t ≡ false)
@@ -43,3 +44,9 @@ and-false false = refl
 pub or-cases : (a b : Bool) → (a || b) ≡ true → (a ≡ true) ⊎ (b ≡ true)
 or-cases true b e = inl refl
 or-cases false b e = inr e
+
+pub between-le : (low x high : ℕ) → between low x high ≡ true → (low ≤ x) × (x ≤ high)
+between-le low x high e = (leb-true low x (and-left (leb low x) (leb x high) e), leb-true x high (and-right (leb low x) (leb x high) e))
+
+pub le-between : (low x high : ℕ) → low ≤ x → x ≤ high → between low x high ≡ true
+le-between low x high p q = and-both (le-leb low x p) (le-leb x high q)

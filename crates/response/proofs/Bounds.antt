@@ -1,15 +1,13 @@
 -- Assignments within the bounds of the tasks' periods.
 use mathlib.Core.Path.{_≡_, refl, sym, ap, _∙_}
 use mathlib.Core.Bool.{true, false≢true}
-use mathlib.Core.List.{List, [], _∷_, map}
+use mathlib.Core.List.{List, [], _∷_}
 use Prim.Native.Nat.{ℕ, suc, _≤_}
 use native.Mathlib.Omega.{arith}
-use lib.Dec.{leb}
 use lib.ListN.{length, getD, set, length-set, length-map}
-use borrow.Author.Tests.{leb-true, le-leb}
 use Rattle.plan.specs.declared.record.Task.{Task}
 use Rattle.plan.specs.Tasks.{between, periodMins, periodMaxs}
-use Rattle.plan.proofs.Tests.{and-left, and-right, and-both}
+use Rattle.plan.proofs.Tests.{and-left, and-right, and-both, between-le, le-between}
 use Rattle.response.specs.Assignments.{dominates, withinBounds}
 use Rattle.response.proofs.Dominance.{AtMost, dominates-at-most, at-most-cons, at-most-set, set-at-most}
 
@@ -23,12 +21,12 @@ within-true [] [] e = record { sized = refl; low = λ k. omega arith; high = λ 
 within-true [] (x ∷ xs) e = absurd (false≢true e)
 within-true (t ∷ ts) [] e = absurd (false≢true e)
 within-true (t ∷ ts) (x ∷ xs) e =
-    let b = and-left (between (t .«period_min») x (t .«period_max»)) (withinBounds ts xs) e in
+    let b = between-le (t .«period_min») x (t .«period_max») (and-left (between (t .«period_min») x (t .«period_max»)) (withinBounds ts xs) e) in
     let w = within-true ts xs (and-right (between (t .«period_min») x (t .«period_max»)) (withinBounds ts xs) e) in
     record {
       sized = ap suc (w .sized);
-      low = at-most-cons (t .«period_min») x (periodMins ts) xs (leb-true _ _ (and-left (leb (t .«period_min») x) (leb x (t .«period_max»)) b)) (w .low);
-      high = at-most-cons x (t .«period_max») xs (periodMaxs ts) (leb-true _ _ (and-right (leb (t .«period_min») x) (leb x (t .«period_max»)) b)) (w .high);
+      low = at-most-cons (t .«period_min») x (periodMins ts) xs (b .0) (w .low);
+      high = at-most-cons x (t .«period_max») xs (periodMaxs ts) (b .1) (w .high);
     }
 
 pub true-within : (ts : List Task) (xs : List ℕ) → Within ts xs → withinBounds ts xs ≡ true
@@ -37,7 +35,7 @@ true-within [] (x ∷ xs) w = let z : ⊥ = omega (arith, w .sized) in absurd z
 true-within (t ∷ ts) [] w = let z : ⊥ = omega (arith, w .sized) in absurd z
 true-within (t ∷ ts) (x ∷ xs) w =
     and-both
-    (and-both (le-leb (t .«period_min») x (w .low 0)) (le-leb x (t .«period_max») (w .high 0)))
+    (le-between (t .«period_min») x (t .«period_max») (w .low 0) (w .high 0))
     (true-within ts xs (record { sized = omega (arith, w .sized); low = λ k. w .low (suc k); high = λ k. w .high (suc k) }))
 
 -- no task has its bounds the wrong way round

@@ -1,19 +1,19 @@
 -- TIMES: from its rules in their order to its answer.
 use mathlib.Core.Path.{_≡_, _∙_}
-use mathlib.Core.Bool.{true, false, not}
+use mathlib.Core.Bool.{not}
 use mathlib.Core.Logic.{inl, inr}
 use mathlib.Core.List.{List, [], _∷_}
 use Prim.Native.Nat.{ℕ, suc, _≤_, _<_}
 use native.Mathlib.Omega.{arith}
 use lib.Dec.{leb}
 use lib.ListN.{length, getD, length-map, List·getD-eq-default}
-use borrow.Author.Tests.{eq-eqb, ne-eqb, leb-true, le-leb, not-false}
+use borrow.Author.Tests.{eq-eqb, ne-eqb, le-leb, not-false}
 use Rattle.plan.specs.declared.record.Task.{Task}
 use Rattle.plan.specs.Faults.{fault, none, faultIf, firstFault}
 use Rattle.plan.specs.Tasks.{between, wcets, periodMins, periodMaxs}
 use Rattle.plan.specs.Layout.{taskCount}
 use Rattle.plan.specs.Files.{fileFault, tasksOf}
-use Rattle.plan.proofs.Tests.{le-or-lt, both, and-left, and-right}
+use Rattle.plan.proofs.Tests.{le-or-lt, both, between-le}
 use Rattle.plan.proofs.Rules.{or-next, or-here, if-passed, run-passed}
 use Rattle.plan.proofs.Fields.{ne-zero}
 use Rattle.plan.proofs.Accepted.{accepted-sane, tasks-length}
@@ -33,8 +33,7 @@ bounds-within ts xs n e = record { sized = n; low = λ k. at k .0; high = λ k. 
   at k = elim (le-or-lt (length ts) k) [
     | inl o ↦ let a = List·getD-eq-default (periodMins ts) 0 {n = k} (rw (length-map ts (λ t. t .«period_min»)) o) in let b = List·getD-eq-default xs 0 {n = k} (rw n o) in (omega arith, omega arith)
     | inr h ↦ let l : ℕ = getD (periodMins ts) k 0 in let x : ℕ = getD xs k 0 in let u : ℕ = getD (periodMaxs ts) k 0 in
-        let b = not-false (between l x u) (if-passed (not (between l x u)) 22 (suc k) (run-passed (boundFault (periodMins ts) (periodMaxs ts) xs) (length ts) 0 e k (omega arith) (omega arith))) in
-        (leb-true l x (and-left (leb l x) (leb x u) b), leb-true x u (and-right (leb l x) (leb x u) b))
+        between-le l x u (not-false (between l x u) (if-passed (not (between l x u)) 22 (suc k) (run-passed (boundFault (periodMins ts) (periodMaxs ts) xs) (length ts) 0 e k (omega arith) (omega arith))))
   ]
 
 -- where rule 23 is the first that may be broken

@@ -46,7 +46,7 @@ taken-length m = m .take-least .kept .0 ∙ work-length (head m)
 
 -- the columns, and what holds at the loop's head
 few : (l : tie.At-loop Inv-loop μ-loop) → length (start l .args .weights .now) ≤ 16
-few l = let g = l .loop .inv .1 .are in omega (arith, width g .3, g .few)
+few l = let g = l .loop .inv .1 .given .are in omega (arith, width g .3, g .few)
 
 misses : (t : tie.Else1 Inv-loop μ-loop) → let m = taken (t .before) in let a = start (head m) .args in schedulable (timing (a .wcet .now) (a .deadline-cap .now)) (take (length (a .weights .now)) (m .take-least .result)) ≡ false
 misses t = sym (t .before .is-schedulable .ensures) ∙ t .if1 .left
@@ -86,7 +86,7 @@ is-schedulable-requires c κs =
     let m = c .before .before .before in
     let l = head m in
     let r = l .loop .inv .1 in
-    (node-limits r (m .take-least .ensures), omega (arith, width (r .are)))
+    (node-limits r (m .take-least .ensures), omega (arith, width (r .given .are)))
 
 array-share-prefix-node-2 : tie.Need-array-share-prefix-node-2 Inv-loop μ-loop
 array-share-prefix-node-2 c = omega (arith, few (head (c .before .before .before .before .before .before)))
