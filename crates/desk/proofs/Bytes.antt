@@ -1,83 +1,107 @@
--- Little-endian bytes: how many there are, what they read back as, and a block that is written from its front on.
-use mathlib.Core.Path.{_≡_, refl, sym, ap}
-use mathlib.Core.List.{List, [], _∷_, _++_, append-assoc, append-nil}
-use Prim.Native.Nat.{ℕ, zero, suc, _+_, _-_, _*_, _/_, _%_, _^_, _<_}
-use native.Mathlib.Nat.{pow-succ', mod-add-div}
+-- The block's bytes: stored field by field and number by number, and what they read back as.
+use mathlib.Core.Path.{_≡_, refl, sym, ap, _∙_}
+use mathlib.Core.List.{List, [], _∷_, _++_, append-assoc}
+use Prim.Native.Nat.{ℕ, suc, _+_, _*_, _^_, _≤_, _<_}
 use native.Mathlib.Numerals.{add-one}
 use native.Mathlib.Omega.{arith}
-use lib.ListN.{length, getD, take, drop, set}
-use lib.Seq.{take-at, drop-at, take-suc-set, drop-cons, drop-length}
-use Rattle.desk.specs.Block.{Carried, bytesOf, wordsOf, encoded, valueOf, words, carried}
+use lib.ListN.{length, getD, drop, length-append, drop-of-length-le}
+use lib.Seq.{sets, take-at, drop-at, drop-cons}
+use Rattle.plan.specs.Lists.{tabulate}
+use Rattle.plan.specs.Words.{bytesOf, word}
+use Rattle.plan.specs.Tasks.{maxTasks}
+use Rattle.plan.proofs.Lists.{sets-append, sets-whole}
+use Rattle.plan.proofs.Bytes.{bytes-length, bytes-value}
+use Rattle.optimizer.specs.declared.answer.Answer.{Answer}
+use Rattle.desk.specs.Block.{Carried, blockSize, periodsAt, wordsOf, answerBytes, encoded, carried}
+use Rattle.desk.specs.Inner.{Writes}
 
-bytes-length : (width v : ℕ) → length (bytesOf width v) ≡ width
-unfolding bytesOf
-bytes-length zero v = refl
-bytes-length (suc width) v = ap suc (bytes-length width (v / 256))
+abbrev put : List ℕ → ℕ → ℕ → ℕ → List ℕ
+put b at width v = sets b at (bytesOf width v)
 
--- bytes read back
-bytes-value : (width v : ℕ) → v < 256 ^ width → valueOf (bytesOf width v) ≡ v
-unfolding bytesOf valueOf
-bytes-value zero v h = omega arith
-bytes-value (suc width) v h =
-    let l : v < 256 * 256 ^ width = rw (pow-succ' 256 width) at h in
-    let e : valueOf (bytesOf width (v / 256)) ≡ v / 256 = bytes-value width (v / 256) (omega arith) in
-    rw e (mod-add-div v 256)
+-- a number, then what stands behind it
+put-then : (b rest : List ℕ) (at width v : ℕ) → sets b at (bytesOf width v ++ rest) ≡ sets (put b at width v) (at + width) rest
+put-then b rest at width v = rw (sets-append b (bytesOf width v) rest at, bytes-length width v)
 
--- numbers of 4 bytes each read back
+pub answer-put : (b : List ℕ) (a : Answer) (n : ℕ)
+    → put (put (put (put (put (put b 0 4 (a .fault .number)) 4 4 (a .fault .place)) 8 8 (a .cost)) 16 8 (a .rounds)) 24 8 (a .bound)) 32 4 n
+    ≡ sets b 0 (answerBytes a n)
+unfolding answerBytes
+answer-put b a n = simp put-then
+
+-- numbers of 4 bytes each that are put one by one: what is to be stored yet, from number i on
+module _ (b : List ℕ) (at : ℕ) (xs : List ℕ) (i : ℕ) where
+  pub word-next : i < length xs
+      → sets (put b (at + 4 * i) 4 (getD xs i 0)) (at + 4 * (i + 1)) (wordsOf (drop (i + 1) xs))
+      ≡ sets b (at + 4 * i) (wordsOf (drop i xs))
+  unfolding wordsOf
+  word-next h =
+      let e : at + 4 * (i + 1) ≡ at + 4 * i + 4 = omega arith in
+      rw (e, add-one i, drop-cons xs i 0 h, put-then)
+
+  pub words-end : length xs ≤ i → sets b at (wordsOf (drop i xs)) ≡ b
+  unfolding wordsOf
+  words-end h = rw (drop-of-length-le xs h)
+
+words-length : (xs : List ℕ) → length (wordsOf xs) ≡ 4 * length xs
+unfolding wordsOf
+words-length [] = refl
+words-length (x ∷ xs) = simp (length-append, bytes-length) (omega (arith, words-length xs))
+
+-- such numbers, behind other bytes, read back
 abbrev pub Narrow : List ℕ → Type 0
 Narrow xs = (k : ℕ) → getD xs k 0 < 256 ^ 4
 
-words-values : (xs : List ℕ) → Narrow xs → words (length xs) (wordsOf xs) ≡ xs
-unfolding words wordsOf
-words-values [] h = refl
-words-values (x ∷ xs) h =
-    let e : length (bytesOf 4 x) ≡ 4 = bytes-length 4 x in
-    rw (take-at (bytesOf 4 x) (wordsOf xs) 4 e, drop-at (bytesOf 4 x) (wordsOf xs) 4 e, bytes-value 4 x (h 0), words-values xs (λ k. h (suc k)))
+words-back : (xs front : List ℕ) (at i : ℕ) → length front ≡ at + 4 * i → Narrow xs
+    → tabulate (λ k. word (front ++ wordsOf xs) (at + 4 * k) 4) (length xs) i ≡ xs
+unfolding wordsOf
+words-back [] front at i l h = refl
+words-back (x ∷ xs) front at i l h =
+    let n = bytes-length 4 x in
+    let rest : List ℕ = bytesOf 4 x ++ wordsOf xs in
+    let here : word (front ++ rest) (at + 4 * i) 4 ≡ x =
+    rw (drop-at front rest (at + 4 * i) l, take-at (bytesOf 4 x) (wordsOf xs) 4 n) (bytes-value 4 x (h 0)) in
+    let there = words-back xs (front ++ bytesOf 4 x) at (suc i) (simp length-append (omega arith)) (λ k. h (suc k)) in
+    rw here (ap (λ (l : List ℕ). x ∷ l) (rw append-assoc at there))
 
--- each number below its width
+-- each number is below its width
 pub record Fits (a : Carried) : Type 0 where
-  pub number : a .number < 256 ^ 4
-  pub place : a .place < 256 ^ 4
-  pub cost : a .cost < 256 ^ 8
-  pub rounds : a .rounds < 256 ^ 8
-  pub bound : a .bound < 256 ^ 8
+  pub number : a .answer .fault .number < 256 ^ 4
+  pub place : a .answer .fault .place < 256 ^ 4
+  pub cost : a .answer .cost < 256 ^ 8
+  pub rounds : a .answer .rounds < 256 ^ 8
+  pub bound : a .answer .bound < 256 ^ 8
   pub tasks : a .tasks < 256 ^ 4
-  pub narrow : Narrow (a .periods)
-  pub sixteen : length (a .periods) ≡ 16
+  pub periods : Narrow (a .periods)
+  pub sixteen : length (a .periods) ≡ maxTasks
 
-pub encoded-carried : (a : Carried) → Fits a → carried (encoded a) ≡ a
-unfolding encoded carried bytesOf
-encoded-carried a f =
-    let p : words 16 (wordsOf (a .periods)) ≡ a .periods = rw (sym (f .sixteen)) (words-values (a .periods) (f .narrow)) in
-    rw (bytes-value 4 (a .number) (f .number), bytes-value 4 (a .place) (f .place), bytes-value 8 (a .cost) (f .cost), bytes-value 8 (a .rounds) (f .rounds), bytes-value 8 (a .bound) (f .bound), bytes-value 4 (a .tasks) (f .tasks), p)
+encoded-carried : (c : Carried) → Fits c → carried (encoded c) ≡ c
+unfolding encoded carried answerBytes bytesOf
+encoded-carried c f =
+    let a : Answer = c .answer in
+    let front : List ℕ = answerBytes a (c .tasks) in
+    let periods = rw (f .sixteen) at (words-back (c .periods) front periodsAt 0 refl (f .periods)) in
+    rw (
+      bytes-value 4 (a .fault .number) (f .number),
+      bytes-value 4 (a .fault .place) (f .place),
+      bytes-value 8 (a .cost) (f .cost),
+      bytes-value 8 (a .rounds) (f .rounds),
+      bytes-value 8 (a .bound) (f .bound),
+      bytes-value 4 (c .tasks) (f .tasks),
+      periods,
+    )
 
--- a block written byte by byte, and number by number: what is written, with what is left, stays the same
-pub byte-next : (b : List ℕ) (at width i v : ℕ) → i < width → at + i < length b
-    → take (at + (i + 1)) (set b (at + i) (v % 256)) ++ bytesOf (width - (i + 1)) (v / 256) ≡ take (at + i) b ++ bytesOf (width - i) v
-unfolding bytesOf
-byte-next b at width i v h l =
-    let e : width - i ≡ suc (width - (i + 1)) = omega arith in
-    let a : at + (i + 1) ≡ suc (at + i) = omega arith in
-    rw (e, a, take-suc-set b (at + i) (v % 256) l, append-assoc)
+answer-length : (a : Answer) (n : ℕ) → length (answerBytes a n) ≡ periodsAt
+unfolding answerBytes bytesOf
+answer-length a n = refl
 
-pub bytes-end : (b : List ℕ) (at width i v : ℕ) → i ≡ width → take (at + width) b ≡ take (at + i) b ++ bytesOf (width - i) v
-unfolding bytesOf
-bytes-end b at width i v e = let z : width - width ≡ 0 = omega arith in rw (e, z, append-nil)
-
-pub word-next : (b b′ xs : List ℕ) (at i : ℕ) → i < length xs → take (at + 4 * i + 4) b′ ≡ take (at + 4 * i) b ++ bytesOf 4 (getD xs i 0)
-    → take (at + 4 * (i + 1)) b′ ++ wordsOf (drop (i + 1) xs) ≡ take (at + 4 * i) b ++ wordsOf (drop i xs)
-unfolding wordsOf
-word-next b b′ xs at i h e =
-    let a : at + 4 * (i + 1) ≡ at + 4 * i + 4 = omega arith in
-    rw (a, e, drop-cons xs i 0 h, add-one, append-assoc)
-
-pub words-end : (b xs : List ℕ) (at i : ℕ) → i ≡ length xs → take (at + 4 * length xs) b ≡ take (at + 4 * i) b ++ wordsOf (drop i xs)
-unfolding wordsOf
-words-end b xs at i e = rw (e, drop-length xs, append-nil)
-
--- a block written field by field, each behind the one before it
-pub fields-encoded : (a : Carried) (b₁ b₂ b₃ b₄ b₅ b₆ : List ℕ) → take 4 b₁ ≡ bytesOf 4 (a .number) → take 8 b₂ ≡ take 4 b₁ ++ bytesOf 4 (a .place)
-    → take 16 b₃ ≡ take 8 b₂ ++ bytesOf 8 (a .cost) → take 24 b₄ ≡ take 16 b₃ ++ bytesOf 8 (a .rounds) → take 32 b₅ ≡ take 24 b₄ ++ bytesOf 8 (a .bound)
-    → take 36 b₆ ≡ take 32 b₅ ++ bytesOf 4 (a .tasks) → take 36 b₆ ++ wordsOf (a .periods) ≡ encoded a
+-- the whole block, its periods behind the answer
+pub block-written : (b : List ℕ) (c : Carried) → length b ≡ blockSize → Fits c
+    → Writes c (sets (sets b 0 (answerBytes (c .answer) (c .tasks))) periodsAt (wordsOf (c .periods)))
 unfolding encoded
-fields-encoded a b₁ b₂ b₃ b₄ b₅ b₆ number place cost rounds bound tasks = rw (tasks, bound, rounds, cost, place, number) (simp append-assoc)
+block-written b c l f =
+    let front : List ℕ = answerBytes (c .answer) (c .tasks) in
+    let behind = answer-length (c .answer) (c .tasks) in
+    let size : length (encoded c) ≡ blockSize = simp (length-append, words-length) (omega (arith, f .sixteen)) in
+    let joined = rw behind at (sets-append b front (wordsOf (c .periods)) 0) in
+    let all = sym joined ∙ sets-whole b (encoded c) (l ∙ sym size) in
+    record { bytes = all; reads = rw all (encoded-carried c f) }

@@ -9,57 +9,80 @@ use lib.Dec.{eqb}
 use lib.ListN.{length, take, drop, take-append-drop}
 use lib.Seq.{take-at, length-take-le}
 use borrow.Author.Tests.{eq-eqb, ne-eqb, le-ltb}
+use Rattle.plan.specs.declared.reader.Loaded.{Loaded}
 use Rattle.plan.specs.Faults.{passed}
-use Rattle.plan.specs.Layout.{taskCount}
-use Rattle.plan.specs.Files.{accepted, tasksOf, tasksRead}
-use Rattle.plan.proofs.Accepted.{accepted-areas, read-few}
+use Rattle.plan.specs.Files.{fileFault, accepted, tasksOf}
+use Rattle.plan.specs.Promises.{planTasks, Loads, Usable}
 use Rattle.plan.proofs.Tests.{bool}
-use Rattle.optimizer.specs.declared.cheapest.Answer.{Answer}
+use Rattle.plan.proofs.Accepted.{tasks-few}
+use Rattle.plan.proofs.Loading.{loaded-count}
+use Rattle.optimizer.specs.declared.answer.Answer.{Answer}
 use Rattle.optimizer.specs.Claims.{Settles}
-use Rattle.optimizer.specs.Promises.{callFault, outcome, Plans, roomOf}
-use Rattle.desk.specs.Block.{blockSize, noPeriods, padded}
-use Rattle.desk.specs.Inner.{carriedBy, Writes}
+use Rattle.optimizer.specs.Promises.{Outcome, callFault, roomOf, Answers, Plans}
+use Rattle.desk.specs.Block.{Carried, blockSize, noPeriods, padded}
+use Rattle.desk.specs.Inner.{Writes}
 use Rattle.desk.specs.Promises.{deskWork, deskOutcome, deskCarries, Calls}
 
 pub wrong-block : (s b : List ℕ) (budget : ℕ) → (length b ≡ blockSize → ⊥) → Calls s budget b b 25
 wrong-block s b budget h =
-    let e : eqb (length b) 100 ≡ false = ne-eqb (length b) 100 h in
+    let e : eqb (length b) blockSize ≡ false = ne-eqb (length b) blockSize h in
     record { returns = rw e; block = rw e; carries = λ l. absurd (h l); settles = λ l. absurd (h l) }
 
 -- an accepted file passes the rules for the spaces too
-accepted-passes : (s : List ℕ) → accepted s ≡ true → passed (callFault s (tasksRead s) deskWork) ≡ true
+accepted-passes : (s : List ℕ) → accepted s ≡ true
+    → passed (callFault (fileFault s) (tasksOf s) (length (tasksOf s)) deskWork) ≡ true
 unfolding callFault
 accepted-passes s e =
-    let w = accepted-areas s e in
-    rw (e, eq-eqb (taskCount s) (taskCount s) refl, le-ltb 16000 (taskCount s) (omega arith))
+    let n : ℕ = length (tasksOf s) in
+    rw (e, eq-eqb n n refl, le-ltb deskWork n (omega (arith, tasks-few s)))
 
 -- CHEAPEST was lent the first n of sixteen zeros, and left o′ there
-module _ {s o′ w w′ : List ℕ} {budget n : ℕ} {r : Answer} (tasks : n ≡ tasksRead s) (p : Plans s budget (take n noPeriods) o′ w w′ r) (work : length w ≡ deskWork)
-    (sized : length o′ ≡ length (take n noPeriods)) where
-  space : length (take n noPeriods) ≡ n
-  space = length-take-le n noPeriods (rw tasks (read-few s))
+module _ {s : List ℕ} {l : Loaded} (loaded : Loads s l × Usable l) {budget : ℕ} {o′ w w′ : List ℕ} {r : Answer}
+    (p : Plans (l .fault) (planTasks (l .plan)) budget (take (l .plan .tasks) noPeriods) o′ w w′ r) (work : length w ≡ deskWork)
+    (sized : length o′ ≡ length (take (l .plan .tasks) noPeriods)) where
+  abbrev lent : List ℕ
+  lent = take (l .plan .tasks) noPeriods
 
-  same-outcome : outcome s budget (length (take n noPeriods)) (length w) ≡ deskOutcome s budget
-  same-outcome = rw (work, space, tasks)
+  abbrev x : Outcome
+  x = deskOutcome s budget
 
-  answered : r .number ≡ deskOutcome s budget .number
-  answered = p .number ∙ ap (λ x. x .number) same-outcome
+  count : l .plan .tasks ≡ length (tasksOf s)
+  count = loaded-count s l loaded
 
-  all-periods : o′ ++ drop n noPeriods ≡ padded (cond (eqb (deskOutcome s budget .number) 0) (deskOutcome s budget .periods) [])
-  all-periods =
-      let q = rw (same-outcome, answered) at (p .periods) in
-      elim (bool (eqb (deskOutcome s budget .number) 0)) [
-        | inl e ↦ let z : o′ ≡ deskOutcome s budget .periods = rw e at q in rw (e, ← z, sized, space)
-        | inr e ↦ let z : o′ ≡ take n noPeriods = rw e at q in rw (e, z) (take-append-drop n noPeriods)
-      ]
+  all-lent : length lent ≡ l .plan .tasks
+  all-lent = length-take-le (l .plan .tasks) noPeriods (loaded .1 .few)
 
-  written : carriedBy r n (o′ ++ drop n noPeriods) ≡ deskCarries s budget
-  written = rw (all-periods, p .number, p .place, p .price, p .rounds, p .bound, same-outcome, tasks)
+  space : length lent ≡ length (tasksOf s)
+  space = all-lent ∙ count
 
-  settled : accepted s ≡ true → Settles (tasksOf s) budget (roomOf s deskWork) (r .number) (r .cost) (r .rounds) (r .bound) o′
-  settled a = rw (space, work, tasks) at (p .settles) (accepted-passes s a)
+  plans : Plans (fileFault s) (tasksOf s) budget lent o′ w w′ r
+  plans = rw (loaded .0 .fault, loaded .0 .tasks) at p
 
-  pub right-block : (b : List ℕ) {b′ : List ℕ} → length b ≡ blockSize → Writes (carriedBy r n (o′ ++ drop n noPeriods)) b′ → Calls s budget b b′ (r .number)
+  answers : Answers x lent o′ w w′ r
+  answers = rw (space, work) at (plans .answers)
+
+  all-periods : o′ ++ drop (l .plan .tasks) noPeriods ≡ padded (cond (passed (x .answer .fault)) (x .periods) [])
+  all-periods = elim (bool (passed (x .answer .fault))) [
+    | inl e ↦ let z : o′ ≡ x .periods = rw e at (answers .periods) in rw (e, ← z, sized, all-lent)
+    | inr e ↦ let z : o′ ≡ lent = rw e at (answers .periods) in rw (e, z) (take-append-drop (l .plan .tasks) noPeriods)
+  ]
+
+  abbrev written : Carried
+  written = record { answer = r; tasks = l .plan .tasks; periods = o′ ++ drop (l .plan .tasks) noPeriods }
+
+  is-carried : written ≡ deskCarries s budget
+  is-carried = rw (all-periods, answers .answer, count)
+
+  settled : accepted s ≡ true → Settles (tasksOf s) budget (roomOf (tasksOf s) deskWork) r o′
+  settled a = rw (space, work) at (plans .settles) (accepted-passes s a)
+
+  pub right-block : (b : List ℕ) {b′ : List ℕ} → length b ≡ blockSize → Writes written b′ → Calls s budget b b′ (r .fault .number)
   right-block b long out =
-      let e : eqb (length b) 100 ≡ true = eq-eqb (length b) 100 long in
-      record { returns = rw e answered; block = rw (e, ← written) (out .bytes); carries = λ l. out .reads ∙ written; settles = λ l a. rw (out .reads, take-at o′ (drop n noPeriods) n (sized ∙ space)) (settled a) }
+      let e : eqb (length b) blockSize ≡ true = eq-eqb (length b) blockSize long in
+      let front = take-at o′ (drop (l .plan .tasks) noPeriods) (l .plan .tasks) (sized ∙ all-lent) in
+      record {
+        returns = rw e (ap (λ a. a .fault .number) (answers .answer));
+        block = rw (e, ← is-carried) (out .bytes);
+        carries = λ h. out .reads ∙ is-carried;
+        settles = λ h a. rw (out .reads, front) (settled a);
+      }

@@ -1,5 +1,6 @@
 ghost use mathlib.Core.Path.{_≡_};
 ghost use lib.ListN.{length};
+ghost use Rattle.listing.specs.Promises.{inputSize};
 use super::file::write;
 use super::list::all;
 use super::list::first;
@@ -14,6 +15,7 @@ use super::words::part;
 use super::words::piece;
 use libc::STDIN_FILENO;
 use optimizer::Answer;
+use plan::Fault;
 use std::num::wrapping_add_u32;
 
 fn name(file: &[u8], task: u32) {
@@ -34,15 +36,16 @@ fn names(file: &[u8], tasks: u32) {
     }
 }
 
-fn refused(number: u32, place: u32) {
-    if number != 0 {
-        labelled(b" refused|", &[number as u64, place as u64]);
+fn refused(fault: Fault) {
+    if fault.number != 0 {
+        labelled(b" refused|", &[fault.number as u64, fault.place as u64]);
     }
 }
 
 fn try_read(file: &[u8]) {
     let r = plan::read_plan(file);
-    refused(r.number, r.place);
+    let fault = r.fault;
+    refused(fault);
     labelled(b"", &[r.tasks as u64]);
     names(file, r.tasks);
     text(b"\n");
@@ -50,7 +53,8 @@ fn try_read(file: &[u8]) {
 
 fn show_times(file: &[u8], periods: &[u32], times: &mut [u32]) {
     let r = response::response_times(file, periods, times);
-    refused(r.number, r.place);
+    let fault = r.fault;
+    refused(fault);
     labelled(b" missed| first| times", &[r.missed as u64, r.first as u64]);
     numbers(times);
     text(b"\n");
@@ -99,7 +103,13 @@ fn show_work(work: &[u32]) {
 fn show_answer(r: Answer) {
     labelled(
         b"|| cost| rounds| bound| periods",
-        &[r.number as u64, r.place as u64, r.cost, r.rounds, r.bound],
+        &[
+            r.fault.number as u64,
+            r.fault.place as u64,
+            r.cost,
+            r.rounds,
+            r.bound,
+        ],
     );
 }
 
@@ -122,7 +132,7 @@ fn try_cheapest(call: &[u8], file: &[u8]) {
 }
 
 fn show_list(file: &[u8], budget: u64, work: &mut [u32]) {
-    let mut out = [0u8; 1024];
+    let mut out = [0u8; listing::LISTING_SIZE];
     let n = listing::list_plan(file, budget, work, &mut out);
     text(&out[..n]);
 }
@@ -138,12 +148,29 @@ fn try_list(call: &[u8], file: &[u8]) {
     );
 }
 
-fn try_call(call: &[u8], file: &[u8]) {
+// What program timetable writes of the first bytes of its input, so many.
+fn try_print(input: &[u8; listing::INPUT_SIZE], size: usize)
+    requires { ⌜ length (now input) ≡ inputSize ⌝ }
+{
+    let mut out = [0u8; listing::LISTING_SIZE];
+    text(b"\n");
+    if size <= listing::INPUT_SIZE {
+        let n = listing::list_input(input, size, &mut out);
+        text(&out[..n]);
+    }
+}
+
+// A call on a file of so many bytes.
+fn try_call(call: &[u8], input: &[u8; listing::INPUT_SIZE], size: usize)
+    requires { ⌜ length (now input) ≡ inputSize ⌝ }
+{
+    let file = part(input, 0, size);
     match byte(call, 1) {
         b'r' => try_read(file),
         b't' => try_times(call, file),
         b'c' => try_cheapest(call, file),
         b'l' => try_list(call, file),
+        b'p' => try_print(input, size),
         _ => {}
     }
 }
@@ -151,11 +178,11 @@ fn try_call(call: &[u8], file: &[u8]) {
 // A label, a colon, a call, a bar, and the words of its file.
 fn try_example(line: &[u8]) {
     let rest = piece(line, b':', 1);
-    let mut file = [0u8; 2049];
+    let mut file = [0u8; listing::INPUT_SIZE];
     let end = write(piece(rest, b'|', 1), &mut file);
     text(piece(line, b':', 0));
     text(b":");
-    try_call(piece(rest, b'|', 0), part(&file, 0, end));
+    try_call(piece(rest, b'|', 0), &file, end);
 }
 
 fn try_line(line: &[u8]) {

@@ -103,8 +103,8 @@ fn expected(rows: &[u32], periods: &[u32]) -> [u32; 7] {
 fn answered(file: &[u8], periods: &[u32], times: &mut [u32]) -> [u32; 7] {
     let r = response::response_times(file, periods, times);
     [
-        r.number,
-        r.place,
+        r.fault.number,
+        r.fault.place,
         r.missed,
         r.first,
         at(times, 0),

@@ -121,9 +121,9 @@ fn unanswered(cost: u64, periods: &[u32], work: &[u32], left: u32) -> bool {
 fn right_place(r: Answer, rows: &[u32], missed: u32) -> bool {
     let task = first_alone(rows);
     if task != 0 {
-        r.number == 31 && r.place == task
+        r.fault.number == 31 && r.fault.place == task
     } else {
-        r.number == 32 && r.place == missed
+        r.fault.number == 32 && r.fault.place == missed
     }
 }
 
@@ -136,7 +136,7 @@ fn right_refusal(r: Answer, rows: &[u32], missed: u32, periods: &[u32], work: &[
 }
 
 fn right_answer(r: Answer, rows: &[u32], optimum: &[u32], periods: &[u32], work: &[u32]) -> bool {
-    r.place == 0
+    r.fault.place == 0
         && r.cost == cost(rows, optimum) as u64
         && r.bound == 0
         && begins(optimum, periods)
@@ -155,8 +155,8 @@ fn is_short(rows: &[u32], budget: u64, room: usize) -> bool {
 
 // A stop: 33, at the budget, or 34, with a bound of at most the least cost.
 fn right_stop(r: Answer, least: u32, budget: u64, periods: &[u32], work: &[u32]) -> bool {
-    (r.number == 34 || r.number == 33 && r.rounds == budget)
-        && r.place == 0
+    (r.fault.number == 34 || r.fault.number == 33 && r.rounds == budget)
+        && r.fault.place == 0
         && r.bound <= least as u64
         && unanswered(r.cost, periods, work, 0)
 }
@@ -179,7 +179,7 @@ fn right(
         right_refusal(r, rows, missed, periods, work)
     } else if !right_rounds(r.rounds, rows, budget) {
         false
-    } else if r.number == 0 {
+    } else if r.fault.number == 0 {
         right_answer(r, rows, optimum, periods, work)
     } else {
         is_short(rows, budget, work.len())
@@ -210,7 +210,7 @@ fn judge(
 ) -> usize {
     let r = optimizer::cheapest_periods(file, budget, periods, work);
     if right(r, rows, optimum, budget, periods, work) {
-        counter(r.number)
+        counter(r.fault.number)
     } else {
         11
     }

@@ -19,7 +19,8 @@ decimal-digits (suc most) n (suc (suc k)) l f =
     let h : 10 ^ suc k ≤ n = rw e at (f .2 (omega arith)) in
     let p = one-le-pow k 10 (omega arith) in
     let d : suc k - 1 ≡ k = omega arith in
-    rw (le-ltb n 10 (omega arith), lt-ltb (n % 10) 10 (omega arith), decimal-digits most (n / 10) (suc k) (omega arith) (omega arith, omega arith, λ j. rw d (omega arith)))
+    let rest = decimal-digits most (n / 10) (suc k) (omega arith) (omega arith, omega arith, λ j. rw d (omega arith)) in
+    rw (le-ltb n 10 (omega arith), lt-ltb (n % 10) 10 (omega arith), rest)
 
 -- a 64-bit number has 20 digits at most
 module _ (n k : ℕ) (small : n < 18446744073709551616) (fewest : Fewest 10 1 n k) where

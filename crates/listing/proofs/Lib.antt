@@ -1,6 +1,6 @@
 -- Laws of the listing, by subject.
-pub mod Decimal
-pub mod Writing
-pub mod TaskLines
-pub mod Outcomes
-pub mod Examples
+mod Decimal  -- a number's digits
+mod Writing  -- texts stored one after another
+mod TaskLines  -- the lines of the tasks
+mod Outcomes  -- from CHEAPEST's and TIMES's answers to the text
+pub mod Examples  -- the published listing

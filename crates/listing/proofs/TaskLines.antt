@@ -8,40 +8,55 @@ use native.Mathlib.Nat.{le-trans}
 use native.Mathlib.Numerals.{add-one}
 use lib.Dec.{eqb}
 use lib.ListN.{length, getD, length-take}
+use Rattle.plan.specs.Layout.{nameWidth}
 use Rattle.plan.specs.Names.{nameField, withoutZeros}
 use Rattle.plan.specs.Files.{isNamed}
 use Rattle.plan.specs.Promises.{Names}
 use Rattle.plan.proofs.Tests.{bool}
 use Rattle.listing.specs.Text.{line, decimal, taskLines}
-use Rattle.listing.specs.Inner.{Puts}
+use Rattle.listing.specs.Inner.{Puts, lineSize}
 use Rattle.listing.proofs.Writing.{then, puts-within}
 
 without-zeros-le : (bs : List ℕ) → length (withoutZeros bs) ≤ length bs
 without-zeros-le [] = omega arith
-without-zeros-le (b ∷ bs) = elim (bool (eqb b 0)) [ inl e ↦ rw (e, withoutZeros) (omega arith) | inr e ↦ rw (e, withoutZeros) (omega (arith, without-zeros-le bs)) ]
+without-zeros-le (b ∷ bs) = elim (bool (eqb b 0)) [
+  | inl e ↦ rw (e, withoutZeros) (omega arith)
+  | inr e ↦ rw (e, withoutZeros) (omega (arith, without-zeros-le bs))
+]
 
-pub name-le : {p : ℕ × ℕ} {s : List ℕ} {task : ℕ} {p′ : ℕ × ℕ} {name : List ℕ} → Names p s task p′ name → length name ≤ 16
+pub name-le : {p : ℕ × ℕ} {s : List ℕ} {task : ℕ} {p′ : ℕ × ℕ} {name : List ℕ} → Names p s task p′ name
+    → length name ≤ nameWidth
 name-le {s = s} {task} n = rw (n .bytes) (elim (bool (isNamed s task)) [
   | inl e ↦ rw e (le-trans (without-zeros-le (nameField s (task - 1))) (simp length-take (omega arith)))
   | inr e ↦ rw e (omega arith)
 ])
 
--- a loop over the tasks stands at i: the lines of as many are stored, each of 59 bytes at most: a name of 16, two numbers of 20, two spaces and LF
+-- a loop over the tasks stands at i: the lines of as many are stored
 pub record Listed (s xs ts : List ℕ) (at : ℕ) (out₀ : List ℕ) (i end : ℕ) (out : List ℕ) : Type 0 where
-  pub puts : Puts at out₀ (taskLines s xs ts i) (59 * i) end out
+  pub puts : Puts at out₀ (taskLines s xs ts i) (lineSize * i) end out
   pub sized : length out ≡ length out₀
   pub within : i ≤ length xs
 
 pub listed-none : (s xs ts : List ℕ) (at : ℕ) (out : List ℕ) → Listed s xs ts at out 0 at out
-listed-none s xs ts at out = record { puts = record { stored = refl; end = omega arith; few = omega arith }; sized = refl; within = omega arith }
+listed-none s xs ts at out = record {
+  puts = record { stored = refl; end = omega arith; few = omega arith };
+  sized = refl;
+  within = omega arith;
+}
 
 module _ {s xs ts : List ℕ} {at : ℕ} {out₀ : List ℕ} {i end : ℕ} {out : List ℕ} (p : Listed s xs ts at out₀ i end out) where
   pub listed-more : {q q′ : ℕ × ℕ} {r : ℕ} {name out′ : List ℕ} → i < length xs → Names q s (i + 1) q′ name
-      → Puts end out (line (name ∷ decimal (getD xs i 0) ∷ decimal (getD ts i 0) ∷ [])) (length name + 43) r out′ → length out′ ≡ length out
+      → Puts end out (line (name ∷ decimal (getD xs i 0) ∷ decimal (getD ts i 0) ∷ [])) (length name + 43) r out′
+      → length out′ ≡ length out
       → Listed s xs ts at out₀ (i + 1) r out′
   listed-more h n w l =
       let k = name-le n in
-      rw add-one (record { puts = puts-within (59 * suc i) (omega arith) (then (p .puts) (rw (n .bytes) at (puts-within 59 (omega arith) w))); sized = omega arith; within = omega arith })
+      let one = rw (n .bytes) at (puts-within lineSize (omega arith) w) in
+      rw add-one (record {
+        puts = puts-within (lineSize * suc i) (omega arith) (then (p .puts) one);
+        sized = omega arith;
+        within = omega arith;
+      })
 
-  pub listed-all : length xs ≤ i → Puts at out₀ (taskLines s xs ts (length xs)) (59 * length xs) end out
+  pub listed-all : length xs ≤ i → Puts at out₀ (taskLines s xs ts (length xs)) (lineSize * length xs) end out
   listed-all h = let e : i ≡ length xs = omega arith in rw e at (p .puts)

@@ -2,10 +2,11 @@
 use mathlib.Core.Bool.{cond}
 use mathlib.Core.List.{List, [], _∷_, _++_}
 use Prim.Native.Nat.{ℕ, zero, suc, _+_, _/_, _%_}
-use lib.Dec.{eqb, ltb}
-use lib.ListN.{getD}
-use Rattle.plan.specs.Layout.{taskCount}
-use Rattle.plan.specs.Files.{nameOf}
+use lib.Dec.{ltb}
+use lib.ListN.{length, getD}
+use Rattle.plan.specs.declared.faults.Fault.{Fault}
+use Rattle.plan.specs.Faults.{passed}
+use Rattle.plan.specs.Files.{tasksOf, nameOf}
 use Rattle.response.specs.Promises.{timesOf}
 use Rattle.optimizer.specs.Promises.{Outcome, outcome}
 
@@ -41,7 +42,8 @@ refusedWord = 114 ∷ 101 ∷ 102 ∷ 117 ∷ 115 ∷ 101 ∷ 100 ∷ []
 abbrev pub boundWord : List ℕ
 boundWord = 98 ∷ 111 ∷ 117 ∷ 110 ∷ 100 ∷ []
 
--- "one line a job, in order: name, period, response time": of task i, counted from 0, whose name is that of number i + 1
+-- "one line a job, in order: name, period, response time": of task i, counted from 0, whose name is that of
+-- number i + 1
 abbrev pub taskLine : List ℕ → List ℕ → List ℕ → ℕ → List ℕ
 taskLine s xs ts i = line (nameOf s (i + 1) ∷ decimal (getD xs i 0) ∷ decimal (getD ts i 0) ∷ [])
 
@@ -53,20 +55,28 @@ taskLines s xs ts (suc i) = taskLines s xs ts i ++ taskLine s xs ts i
 -- "The first line is `cost`, the cost, `rounds`, the rounds."
 abbrev pub answerText : List ℕ → Outcome → List ℕ
 answerText s o =
-    line (costWord ∷ decimal (o .price) ∷ roundsWord ∷ decimal (o .rounds) ∷ [])
-    ++ taskLines s (o .periods) (timesOf s (o .periods)) (taskCount s)
+    line (costWord ∷ decimal (o .answer .cost) ∷ roundsWord ∷ decimal (o .answer .rounds) ∷ [])
+    ++ taskLines s (o .periods) (timesOf s (o .periods)) (length (tasksOf s))
 
 -- "Refusals print one line: `refused`, number, place"
+abbrev pub refusalFields : Fault → List (List ℕ)
+refusalFields f = refusedWord ∷ decimal (f .number) ∷ decimal (f .place) ∷ []
+
 abbrev pub refusalText : Outcome → List ℕ
-refusalText o = line (refusedWord ∷ decimal (o .number) ∷ decimal (o .place) ∷ [])
+refusalText o = line (refusalFields (o .answer .fault))
 
 -- "33 and 34 add to it `bound`, its number, `rounds`, its number"
 abbrev pub stopText : Outcome → List ℕ
-stopText o = line (refusedWord ∷ decimal (o .number) ∷ decimal (o .place) ∷ boundWord ∷ decimal (o .bound) ∷ roundsWord ∷ decimal (o .rounds) ∷ [])
+stopText o =
+    line
+    (refusalFields (o .answer .fault)
+    ++ (boundWord ∷ decimal (o .answer .bound) ∷ roundsWord ∷ decimal (o .answer .rounds) ∷ []))
 
 unfoldable pub listingFor : List ℕ → Outcome → List ℕ
-listingFor s o = cond (eqb (o .number) 0) (answerText s o) (cond (ltb (o .number) 33) (refusalText o) (stopText o))
+listingFor s o =
+    cond (passed (o .answer .fault)) (answerText s o)
+    (cond (ltb (o .answer .fault .number) 33) (refusalText o) (stopText o))
 
 -- of a file, a budget and a work space of so many numbers
 abbrev pub listingOf : List ℕ → ℕ → ℕ → List ℕ
-listingOf s budget work = listingFor s (outcome s budget (taskCount s) work)
+listingOf s budget work = listingFor s (outcome s budget (length (tasksOf s)) work)

@@ -3,4 +3,7 @@ mod writer; // writer.rt: texts and numbers, one after another, into a lent buff
 mod lines; // lines.rt: the lines of a listing
 mod listing; // listing.rt: the whole text
 
+pub use listing::INPUT_SIZE;
+pub use listing::LISTING_SIZE;
+pub use listing::list_input;
 pub use listing::list_plan;

@@ -7,7 +7,8 @@ ghost use Rattle.listing.specs.Inner.{Puts};
 // Puts a text from index at on, and a byte after it; answers the index after that.
 pub fn put_text(out: &mut [u8], at: usize, text: &[u8], end: u8) -> usize
     requires { ⌜ at + (length (now text) + 1) ≤ length (now out) ⌝ }
-    ensures { λ r. ⌜ Puts at (now (out .entry)) (fields (now (text .entry) ∷ []) end) (length (now (text .entry)) + 1) r (now (out .exit)) ⌝ }
+    ensures { λ r. ⌜ (let t = now (text .entry) in
+        Puts at (now (out .entry)) (fields (t ∷ []) end) (length t + 1) r (now (out .exit))) ⌝ }
 {
     let mut k = 0;
     while k < text.len() {
@@ -31,7 +32,8 @@ pub fn put_number(out: &mut [u8], at: usize, n: u64, end: u8) -> usize
 // A word, a space, a number and a byte.
 pub fn put_labelled(out: &mut [u8], at: usize, label: &[u8], n: u64, end: u8) -> usize
     requires { ⌜ at + (length (now label) + 22) ≤ length (now out) ⌝ }
-    ensures { λ r. ⌜ Puts at (now (out .entry)) (fields (now (label .entry) ∷ decimal n ∷ []) end) (length (now (label .entry)) + 22) r (now (out .exit)) ⌝ }
+    ensures { λ r. ⌜ (let l = now (label .entry) in
+        Puts at (now (out .entry)) (fields (l ∷ decimal n ∷ []) end) (length l + 22) r (now (out .exit))) ⌝ }
 {
     let mid = put_text(out, at, label, b' ');
     put_number(out, mid, n, end)

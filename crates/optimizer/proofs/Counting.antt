@@ -31,7 +31,8 @@ length-fronted x (p ∷ ps) = ap suc (length-fronted x ps)
 
 length-spread : (n x : ℕ) (ps : List (List ℕ)) → length (spread n x ps) ≡ n * length ps
 length-spread zero x ps = omega arith
-length-spread (suc n) x ps = omega (arith, length-append (fronted x ps) (spread n (suc x) ps), length-fronted x ps, length-spread n (suc x) ps)
+length-spread (suc n) x ps =
+    omega (arith, length-append (fronted x ps) (spread n (suc x) ps), length-fronted x ps, length-spread n (suc x) ps)
 
 pub length-assignments : (ts : List Task) → length (assignments ts) ≡ assignmentCount ts
 unfolding assignments
@@ -40,14 +41,19 @@ length-assignments (t ∷ ts) = rw (length-spread, length-assignments ts)
 
 listed-fronted : (x : ℕ) (p : List ℕ) (ps : List (List ℕ)) → Listed p ps → Listed (x ∷ p) (fronted x ps)
 listed-fronted x p [] h = h
-listed-fronted x p (q ∷ ps) h = elim (listed-cases p q ps h) [ inl e ↦ rw e (listed-here (x ∷ q) (fronted x ps)) | inr e ↦ omega (arith, listed-fronted x p ps e) ]
+listed-fronted x p (q ∷ ps) h = elim (listed-cases p q ps h) [
+  | inl e ↦ rw e (listed-here (x ∷ q) (fronted x ps))
+  | inr e ↦ omega (arith, listed-fronted x p ps e)
+]
 
 listed-spread : (n x y : ℕ) (p : List ℕ) (ps : List (List ℕ)) → x ≤ y → y < n + x → Listed p ps → Listed (y ∷ p) (spread n x ps)
 listed-spread zero x y p ps a b h = let z : ⊥ = omega arith in absurd z
-listed-spread (suc n) x y p ps a b h = let k = occurrences-append (y ∷ p) (fronted x ps) (spread n (suc x) ps) in elim (eq-or-ne y x) [
-  | inl e ↦ let f : Listed (y ∷ p) (fronted x ps) = rw e (listed-fronted x p ps h) in omega arith
-  | inr e ↦ omega (arith, k, listed-spread n (suc x) y p ps (omega arith) (omega arith) h)
-]
+listed-spread (suc n) x y p ps a b h =
+    let k = occurrences-append (y ∷ p) (fronted x ps) (spread n (suc x) ps) in
+    elim (eq-or-ne y x) [
+      | inl e ↦ let f : Listed (y ∷ p) (fronted x ps) = rw e (listed-fronted x p ps h) in omega arith
+      | inr e ↦ omega (arith, k, listed-spread n (suc x) y p ps (omega arith) (omega arith) h)
+    ]
 
 pub listed-assignments : (ts : List Task) (xs : List ℕ) → Within ts xs → Listed xs (assignments ts)
 unfolding assignments
@@ -55,18 +61,19 @@ listed-assignments [] [] w = listed-here [] []
 listed-assignments [] (x ∷ xs) w = let z : ⊥ = omega (arith, w .sized) in absurd z
 listed-assignments (t ∷ ts) [] w = let z : ⊥ = omega (arith, w .sized) in absurd z
 listed-assignments (t ∷ ts) (x ∷ xs) w =
-    listed-spread (suc (t .«period_max») - t .«period_min») (t .«period_min») x xs (assignments ts) (w .low 0) (omega (arith, w .low 0, w .high 0))
+    listed-spread (suc (t .«period_max») - t .«period_min») (t .«period_min») x xs (assignments ts)
+    (w .low 0) (omega (arith, w .low 0, w .high 0))
     (listed-assignments ts xs (record { sized = omega (arith, w .sized); low = λ k. w .low (suc k); high = λ k. w .high (suc k) }))
 
 -- distinct assignments within the bounds are no more than there are
-pub few-within : (ts : List Task) (ps : List (List ℕ)) → ((p : List ℕ) → occurrences p ps ≤ 1) → ((p : List ℕ) → Listed p ps → Within ts p) → length ps ≤ assignmentCount ts
+pub few-within : (ts : List Task) (ps : List (List ℕ)) → ((p : List ℕ) → occurrences p ps ≤ 1)
+    → ((p : List ℕ) → Listed p ps → Within ts p) → length ps ≤ assignmentCount ts
 few-within ts ps o w =
-    omega (
-      arith,
-      length-assignments ts,
-      length-le ps (assignments ts)
-          (λ p. elim (le-or-lt 1 (occurrences p ps)) [ inl h ↦ omega (arith, o p, listed-assignments ts p (w p h)) | inr h ↦ omega arith ]),
-    )
+    let few : (p : List ℕ) → occurrences p ps ≤ occurrences p (assignments ts) = λ p. elim (le-or-lt 1 (occurrences p ps)) [
+      | inl h ↦ omega (arith, o p, listed-assignments ts p (w p h))
+      | inr h ↦ omega arith
+    ] in
+    omega (arith, length-assignments ts, length-le ps (assignments ts) few)
 
 -- how many pass a test
 unfoldable pub tally : (List ℕ → Bool) → List (List ℕ) → ℕ

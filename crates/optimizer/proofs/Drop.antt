@@ -1,4 +1,5 @@
--- Which children of a node an open node q drops: a child is the node with one period raised, so it dominates q where q exceeds the node nowhere else.
+-- Which children of a node an open node q drops: a child is the node with one period raised, so it dominates q where q exceeds the
+-- node nowhere else.
 use mathlib.Core.Logic.{inl, inr, _≢_}
 use mathlib.Core.Path.{_≡_, refl, sym, _∙_, subst}
 use mathlib.Core.Bool.{Bool, true, false, _||_, or-true, or-false, or-assoc}
@@ -16,7 +17,7 @@ use Rattle.response.specs.Assignments.{dominates}
 use Rattle.response.proofs.Dominance.{at-most-dominates, not-dominates}
 use Rattle.optimizer.specs.Nodes.{dominatesSome}
 use Rattle.optimizer.specs.Search.{child}
-use Rattle.optimizer.specs.Inner.{nodeAt, nodes, Above, drops, inRange, DroppedBy, Branches, Dropped}
+use Rattle.optimizer.specs.Inner.{nodeAt, nodes, Above, drops, inRange, DroppedBy, Expands, Dropped}
 use Rattle.optimizer.specs.declared.children.Drops.{Drops}
 use Rattle.optimizer.specs.declared.children.Drops.the-variants.{All, One, Nothing}
 use Rattle.optimizer.proofs.Space.{length-nodes, nodes-at}
@@ -84,7 +85,10 @@ module _ (q : List ℕ) {node u : List ℕ} (e : length q ≡ length node) (a : 
   module _ {times at i : ℕ} (x : Counted q node times at i) (d : length node ≤ i) where
     pub drops-all : times ≡ 0 → DroppedBy q node u All
     drops-all z = elim (x .is) [
-      | nowhere t f ↦ record { marks = λ j h. under j h (omega (arith, f j (omega arith), a .above j)) (λ k l y. f k (omega arith)); in-range = tt }
+      | nowhere t f ↦ record {
+        marks = λ j h. under j h (omega (arith, f j (omega arith), a .above j)) (λ k l y. f k (omega arith));
+        in-range = tt;
+      }
       | once t o ↦ absurd (omega arith)
       | twice t k h m o ↦ absurd (omega arith)
     ]
@@ -124,35 +128,43 @@ module _ (q : List ℕ) {node u : List ℕ} (e : length q ≡ length node) (a : 
 pub one-inside : {q node u : List ℕ} {d : Drops} → DroppedBy q node u d → {j : ℕ} → d ≡ One j → j < length node
 one-inside {node = node} s e = subst (λ (x : Drops). inRange x (length node)) e (s .in-range)
 
+-- the open nodes beside a node
+abbrev beside : List ℕ → ℕ → List ℕ → List (List ℕ)
+beside work count node = nodes count (length node) work
+
 -- the marks after the first k nodes: the others are still to come
 pub record Marked (work : List ℕ) (count : ℕ) (node u : List ℕ) (marks : List Bool) (k : ℕ) : Type 0 where
   pub size : length marks ≡ 16
   pub upto : k ≤ count
-  pub is : (i : ℕ) → i < length node
-      → getD marks i false || dominatesSome (child node u i) (drop k (nodes count (length node) work)) ≡ dominatesSome (child node u i) (nodes count (length node) work)
+  pub is : (i : ℕ) → i < length node → let c = child node u i in
+      getD marks i false || dominatesSome c (drop k (beside work count node)) ≡ dominatesSome c (beside work count node)
 
-module _ {work : List ℕ} {count : ℕ} {node u : List ℕ} (b : Branches work count node u) where
+module _ {work : List ℕ} {count : ℕ} {node u : List ℕ} (b : Expands work count node u) where
   pub marked-none : Marked work count node u (replicate 16 false) 0
   marked-none = record { size = refl; upto = omega arith; is = λ i h. rw (getD-replicate 16 i false false (omega (arith, b .few))) }
 
   module _ {marks : List Bool} {k : ℕ} (m : Marked work count node u marks k) where
     pub marked-all : count ≤ k → Dropped work count node u marks
-    marked-all h = record {
-      marked = λ i t. sym (or-false (getD marks i false))
-          ∙ rw (drop-of-length-le (nodes count (length node) work) {i = k} (omega (arith, length-nodes count (length node) work))) at (m .is i t);
-    }
+    marked-all h =
+        let e = drop-of-length-le (beside work count node) {i = k} (omega (arith, length-nodes count (length node) work)) in
+        record { marked = λ i t. sym (or-false (getD marks i false)) ∙ rw e at (m .is i t) }
 
     module _ (h : k < count) {q : List ℕ} {d : Drops} (eq : q ≡ nodeAt work (length node) k) (s : DroppedBy q node u d) where
-      seen : (i : ℕ) → i < length node
-          → getD marks i false || (drops d i || dominatesSome (child node u i) (drop (k + 1) (nodes count (length node) work))) ≡ dominatesSome (child node u i) (nodes count (length node) work)
+      seen : (i : ℕ) → i < length node → let c = child node u i in
+          getD marks i false || (drops d i || dominatesSome c (drop (k + 1) (beside work count node)))
+          ≡ dominatesSome c (beside work count node)
       seen i t =
-          rw (← s .marks i t, eq, ← nodes-at count (length node) work k h, add-one k)
-          (rw (drop-cons (nodes count (length node) work) k [] (omega (arith, length-nodes count (length node) work))) at (m .is i t))
+          let e = drop-cons (beside work count node) k [] (omega (arith, length-nodes count (length node) work)) in
+          rw (← s .marks i t, eq, ← nodes-at count (length node) work k h, add-one k) (rw e at (m .is i t))
 
       pub mark-every : d ≡ All → Dropped work count node u (replicate 16 true)
-      mark-every e = record { marked = λ i t. getD-replicate 16 i true false (omega (arith, b .few)) ∙ sym (or-true (getD marks i false)) ∙ rw e at (seen i t) }
+      mark-every e = record {
+        marked = λ i t. getD-replicate 16 i true false (omega (arith, b .few)) ∙ sym (or-true (getD marks i false)) ∙ rw e at (seen i t);
+      }
 
-      next : (marks′ : List Bool) → length marks′ ≡ 16 → ((i : ℕ) → i < length node → getD marks′ i false ≡ getD marks i false || drops d i) → Marked work count node u marks′ (k + 1)
+      next : (marks′ : List Bool) → length marks′ ≡ 16
+          → ((i : ℕ) → i < length node → getD marks′ i false ≡ getD marks i false || drops d i)
+          → Marked work count node u marks′ (k + 1)
       next marks′ l f = record { size = l; upto = omega arith; is = λ i t. rw (f i t, or-assoc) (seen i t) }
 
       pub mark-none : d ≡ Nothing → Marked work count node u marks (k + 1)
@@ -160,6 +172,7 @@ module _ {work : List ℕ} {count : ℕ} {node u : List ℕ} (b : Branches work 
 
       pub mark-one : {j : ℕ} → d ≡ One j → Marked work count node u (set marks j true) (k + 1)
       mark-one {j} e = next (set marks j true) (simp length-set (m .size)) (λ i t. rw e (elim (bool (eqb i j)) [
-        | inl x ↦ rw (x, or-true (getD marks i false), eqb-true i j x) (getD-set-same marks j true false (omega (arith, m .size, b .few, one-inside s e)))
+        | inl x ↦ rw (x, or-true (getD marks i false), eqb-true i j x)
+            (getD-set-same marks j true false (omega (arith, m .size, b .few, one-inside s e)))
         | inr x ↦ rw (x, or-false (getD marks i false)) (getD-set-other marks j i true false (eqb-false i j x))
       ]))

@@ -35,8 +35,8 @@ module _ {xs zs ys : List ℕ} {i : ℕ} (f : Filled xs zs ys i) where
     is = rw (f .is, e, add-one i) (one-more i xs zs h (f .room));
   }
 
-  pub filled-front : length xs ≤ i → take (length xs) ys ≡ xs
-  filled-front h = rw (f .is, take-all i xs h) (take-at xs (drop i zs) (length xs) refl)
+  pub filled-front : {n : ℕ} → length xs ≡ n → n ≤ i → take n ys ≡ xs
+  filled-front {n} e h = rw (f .is, take-all i xs (omega arith)) (take-at xs (drop i zs) n e)
 
   pub filled-whole : length xs ≤ i → length xs ≡ length zs → ys ≡ xs
   filled-whole h e = rw (f .is, take-all i xs h, drop-of-length-le zs {i = i} (omega arith)) (append-nil xs)

@@ -1,21 +1,23 @@
--- Laws by subject.
-pub mod Multiset
-pub mod Steps
-pub mod Optimal
-pub mod Counting
-pub mod Rounds
-pub mod Maximal
-pub mod OnePeriod
-pub mod Raising
-pub mod Branching
-pub mod Guarantees
-pub mod Running
-pub mod Settled
-mod Fill
-mod Space
-mod Scans
-mod Drop
-mod Branch
-mod Looping
-mod Concluding
-pub mod Examples
+-- Laws of the search, by subject.
+pub mod Multiset  -- the open nodes as a multiset
+pub mod Steps  -- the search by any rule, round by round
+pub mod Alike  -- two rules that end alike
+pub mod Optimal  -- why the search by a lawful rule is right
+pub mod Counting  -- the assignments within the bounds, counted
+pub mod Rounds  -- how many rounds there are
+pub mod Maximal  -- maximal unschedulable assignments
+pub mod OnePeriod  -- deadlines as one period changes
+pub mod Raising  -- the last period that misses, and the raising of a node
+pub mod Branching  -- the children of a node
+pub mod Guarantees  -- what the search by a lawful rule comes to
+pub mod Running  -- the search while it runs
+pub mod Settled  -- demand 3
+mod Fill  -- lists filled from the front
+mod Space  -- nodes in the work space
+mod Scans  -- cost, order and the least node, one at a time
+mod Drop  -- children that open nodes drop
+mod Branch  -- children listed after the open nodes
+mod Taking  -- the least node taken off, and how its round goes
+mod Looping  -- the rounds over the work space
+mod Concluding  -- from the rules and the search to the outcome
+pub mod Examples  -- the starred examples

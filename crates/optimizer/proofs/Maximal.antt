@@ -9,18 +9,15 @@ use native.Mathlib.Nat.{le-trans}
 use lib.ListN.{length, getD, set}
 use Rattle.plan.specs.declared.record.Task.{Task}
 use Rattle.plan.specs.Tasks.{periodMins, periodMaxs}
-use Rattle.plan.proofs.Tests.{bool, eq-or-ne, both, not-false}
+use Rattle.plan.proofs.Tests.{bool, eq-or-ne}
 use Rattle.response.proofs.Dominance.{AtMost, at-most-set}
 use Rattle.response.proofs.Bounds.{Within, within-set}
-use Rattle.optimizer.specs.Search.{raisedFrom, raised, muaFrom, mua}
+use Rattle.optimizer.specs.Mua.{raisedFrom, raised, muaFrom, mua}
 
 -- what is asked of tasks and of a time test: no minimum above its maximum, and longer periods never make an assignment unschedulable
 pub record Sound (ts : List Task) (test : List ℕ → Bool) : Type 0 where
   pub ranged : AtMost (periodMins ts) (periodMaxs ts)
   pub monotone : (xs ys : List ℕ) → Within ts xs → Within ts ys → AtMost xs ys → test xs ≡ true → test ys ≡ true
-
-pub fails-below : {ts : List Task} {test : List ℕ → Bool} → Sound ts test → (xs ys : List ℕ) → Within ts xs → Within ts ys → AtMost xs ys → test ys ≡ false → test xs ≡ false
-fails-below 𝓢 xs ys v w a e = not-false (λ t. both (𝓢 .monotone xs ys v w a t) e)
 
 -- u′ is an unschedulable assignment within the bounds, at least u
 pub record FailsAbove (ts : List Task) (test : List ℕ → Bool) (u u′ : List ℕ) : Type 0 where
@@ -30,17 +27,21 @@ pub record FailsAbove (ts : List Task) (test : List ℕ → Bool) (u u′ : List
 
 module _ {ts : List Task} (test : List ℕ → Bool) where
   module _ {u : List ℕ} (w : Within ts u) (e : test u ≡ false) where
-    raised-from : (i left v : ℕ) → getD u i 0 + left ≤ suc v → v ≤ getD (periodMaxs ts) i 0 → FailsAbove ts test u (raisedFrom left test u i v)
+    raised-from : (i left v : ℕ) → getD u i 0 + left ≤ suc v → v ≤ getD (periodMaxs ts) i 0
+        → FailsAbove ts test u (raisedFrom left test u i v)
     raised-from i zero v p q = record { within = w; above = λ k. omega arith; fails = e }
     raised-from i (suc left) v p q = elim (bool (test (set u i v))) [
       | inl t ↦ rw (t, raisedFrom) (raised-from i left (v - 1) (omega arith) (omega arith))
-      | inr t ↦ rw (t, raisedFrom) (record { within = within-set w i v (omega arith) q; above = at-most-set u i (omega arith); fails = t })
+      | inr t ↦ rw (t, raisedFrom)
+          (record { within = within-set w i v (omega arith) q; above = at-most-set u i (omega arith); fails = t })
     ]
 
-    pub raised-fails : (i : ℕ) → FailsAbove ts test u (raised test (periodMaxs ts) u i)
-    raised-fails i = raised-from i (suc (getD (periodMaxs ts) i 0 - getD u i 0)) (getD (periodMaxs ts) i 0) (omega (arith, w .high i)) (omega arith)
+    raised-fails : (i : ℕ) → FailsAbove ts test u (raised test (periodMaxs ts) u i)
+    raised-fails i = let most = getD (periodMaxs ts) i 0 in
+        raised-from i (suc (most - getD u i 0)) most (omega (arith, w .high i)) (omega arith)
 
-  pub mua-from-fails : (left i : ℕ) {u : List ℕ} → Within ts u → test u ≡ false → FailsAbove ts test u (muaFrom left test (periodMaxs ts) u i)
+  mua-from-fails : (left i : ℕ) {u : List ℕ} → Within ts u → test u ≡ false
+      → FailsAbove ts test u (muaFrom left test (periodMaxs ts) u i)
   mua-from-fails zero i w e = record { within = w; above = λ k. omega arith; fails = e }
   mua-from-fails (suc left) i w e =
       let a = raised-fails w e i in
@@ -52,13 +53,16 @@ module _ {ts : List Task} (test : List ℕ → Bool) where
   mua-fails {node} w e = mua-from-fails (length node) 0 w e
 
 -- raising scans down from the maximum: it finds the value that fails while all above pass
-raised-from-is : (test : List ℕ → Bool) (u : List ℕ) (i left v x : ℕ) → v ≤ x → x < v + left → test (set u i v) ≡ false → ((y : ℕ) → v < y → y ≤ x → test (set u i y) ≡ true) → raisedFrom left test u i x ≡ set u i v
-raised-from-is test u i zero v x a b e h = let z : ⊥ = omega arith in absurd z
-raised-from-is test u i (suc left) v x a b e h = elim (eq-or-ne v x) [
-  | inl q ↦ let f : test (set u i x) ≡ false = rw q at e in rw (f, raisedFrom) (rw q)
-  | inr q ↦ rw (h x (omega arith) (omega arith), raisedFrom) (raised-from-is test u i left v (x - 1) (omega arith) (omega arith) e (λ y c d. h y c (omega arith)))
-]
+module _ (test : List ℕ → Bool) (u : List ℕ) (i v : ℕ) (e : test (set u i v) ≡ false) where
+  raised-from-is : (left x : ℕ) → v ≤ x → x < v + left → ((y : ℕ) → v < y → y ≤ x → test (set u i y) ≡ true)
+      → raisedFrom left test u i x ≡ set u i v
+  raised-from-is zero x a b h = let z : ⊥ = omega arith in absurd z
+  raised-from-is (suc left) x a b h = elim (eq-or-ne v x) [
+    | inl q ↦ let f : test (set u i x) ≡ false = rw q at e in rw (f, raisedFrom) (rw q)
+    | inr q ↦ rw (h x (omega arith) (omega arith), raisedFrom)
+        (raised-from-is left (x - 1) (omega arith) (omega arith) (λ y c d. h y c (omega arith)))
+  ]
 
-pub raised-is : (test : List ℕ → Bool) (maxs u : List ℕ) (i v : ℕ) → getD u i 0 ≤ v → v ≤ getD maxs i 0 → test (set u i v) ≡ false → ((y : ℕ) → v < y → y ≤ getD maxs i 0 → test (set u i y) ≡ true)
-    → raised test maxs u i ≡ set u i v
-raised-is test maxs u i v a b e h = raised-from-is test u i (suc (getD maxs i 0 - getD u i 0)) v (getD maxs i 0) b (omega arith) e h
+  pub raised-is : (maxs : List ℕ) → getD u i 0 ≤ v → v ≤ getD maxs i 0
+      → ((y : ℕ) → v < y → y ≤ getD maxs i 0 → test (set u i y) ≡ true) → raised test maxs u i ≡ set u i v
+  raised-is maxs a b h = raised-from-is (suc (getD maxs i 0 - getD u i 0)) (getD maxs i 0) b (omega arith) h

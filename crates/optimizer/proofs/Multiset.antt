@@ -6,7 +6,7 @@ use mathlib.Core.List.{List, [], _∷_, _++_}
 use Prim.Native.Nat.{ℕ, zero, suc, _+_, _-_, _≤_, _<_}
 use native.Mathlib.Omega.{arith}
 use lib.ListN.{length, getD, set}
-use Rattle.plan.specs.Names.{same}
+use Rattle.plan.specs.Lists.{same}
 use Rattle.plan.proofs.Tests.{bool, le-or-lt, both, not-false, or-cases}
 use Rattle.response.specs.Assignments.{less, dominates}
 use Rattle.response.proofs.Dominance.{same-refl, same-eq, ne-same}
@@ -16,7 +16,7 @@ use Rattle.optimizer.specs.Nodes.{leastFrom, leastOf, without, dominates
 abbrev pub Listed : List ℕ → List (List ℕ) → Type 0
 Listed p ps = 1 ≤ occurrences p ps
 
-pub occurrences-self : (p : List ℕ) (ps : List (List ℕ)) → occurrences p (p ∷ ps) ≡ suc (occurrences p ps)
+occurrences-self : (p : List ℕ) (ps : List (List ℕ)) → occurrences p (p ∷ ps) ≡ suc (occurrences p ps)
 occurrences-self p ps = rw (same-refl p) (omega arith)
 
 -- a listed node is the first or one of the others
@@ -40,9 +40,11 @@ occurrences-append p [] qs = omega arith
 occurrences-append p (q ∷ ps) qs = omega (arith, occurrences-append p ps qs)
 
 pub listed-append : (p : List ℕ) (ps qs : List (List ℕ)) → Listed p (ps ++ qs) → Listed p ps ⊎ Listed p qs
-listed-append p ps qs h = elim (le-or-lt 1 (occurrences p ps)) [ inl a ↦ inl a | inr a ↦ inr (omega (arith, occurrences-append p ps qs)) ]
+listed-append p ps qs h =
+    elim (le-or-lt 1 (occurrences p ps)) [ inl a ↦ inl a | inr a ↦ inr (omega (arith, occurrences-append p ps qs)) ]
 
-pub occurrences-without : (p q : List ℕ) (ps : List (List ℕ)) → occurrences p (without q ps) ≡ occurrences p ps - cond (same p q) 1 0
+pub occurrences-without : (p q : List ℕ) (ps : List (List ℕ))
+    → occurrences p (without q ps) ≡ occurrences p ps - cond (same p q) 1 0
 occurrences-without p q [] = omega arith
 occurrences-without p q (r ∷ ps) = elim (bool (same q r)) [
   | inl e ↦ rw (e, same-eq q r e) (omega arith)
@@ -58,9 +60,10 @@ occurrences-set p [] i q h = let z : ⊥ = omega arith in absurd z
 occurrences-set p (r ∷ ps) zero q h = omega arith
 occurrences-set p (r ∷ ps) (suc i) q h = omega (arith, occurrences-set p ps i q (omega arith))
 
-pub length-without : (q : List ℕ) (ps : List (List ℕ)) → Listed q ps → suc (length (without q ps)) ≡ length ps
+length-without : (q : List ℕ) (ps : List (List ℕ)) → Listed q ps → suc (length (without q ps)) ≡ length ps
 length-without q [] h = let z : ⊥ = omega arith in absurd z
-length-without q (r ∷ ps) h = elim (bool (same q r)) [ inl e ↦ rw e | inr e ↦ rw e (ap suc (length-without q ps (omega (arith, rw e at h)))) ]
+length-without q (r ∷ ps) h =
+    elim (bool (same q r)) [ inl e ↦ rw e | inr e ↦ rw e (ap suc (length-without q ps (omega (arith, rw e at h)))) ]
 
 -- a list that holds no more of each node is no longer
 pub length-le : (ps qs : List (List ℕ)) → ((p : List ℕ) → occurrences p ps ≤ occurrences p qs) → length ps ≤ length qs
@@ -79,7 +82,10 @@ module _ (ws : List ℕ) where
   least-cons p q m ps h = elim (bool (less ws q p)) [
     | inl e ↦ let k : Least ws m (q ∷ ps) = rw e at h in record {
       listed = omega (arith, k .listed);
-      least = λ r t. elim (listed-cases r p (q ∷ ps) t) [ inl s ↦ rw s (not-less-trans ws m q p (k .least q (listed-here q ps)) (less-asym ws q p e)) | inr s ↦ k .least r s ];
+      least = λ r t. elim (listed-cases r p (q ∷ ps) t) [
+        | inl s ↦ rw s (not-less-trans ws m q p (k .least q (listed-here q ps)) (less-asym ws q p e))
+        | inr s ↦ k .least r s
+      ];
     }
     | inr e ↦ let k : Least ws m (p ∷ ps) = rw e at h in record {
       listed = omega (arith, k .listed);
@@ -91,7 +97,10 @@ module _ (ws : List ℕ) where
   ]
 
   least-from : (p : List ℕ) (ps : List (List ℕ)) → Least ws (leastFrom ws p ps) (p ∷ ps)
-  least-from p [] = record { listed = listed-here p []; least = λ q h. elim (listed-cases q p [] h) [ inl e ↦ rw e (less-irrefl ws p) | inr e ↦ let z : ⊥ = omega arith in absurd z ] }
+  least-from p [] = record {
+    listed = listed-here p [];
+    least = λ q h. elim (listed-cases q p [] h) [ inl e ↦ rw e (less-irrefl ws p) | inr e ↦ let z : ⊥ = omega arith in absurd z ];
+  }
   least-from p (q ∷ ps) = least-cons p q _ ps (least-from (cond (less ws q p) q p) ps)
 
   pub least-of : (ps : List (List ℕ)) → 1 ≤ length ps → Least ws (leastOf ws ps) ps
@@ -99,22 +108,31 @@ module _ (ws : List ℕ) where
   least-of [] h = let z : ⊥ = omega arith in absurd z
   least-of (p ∷ ps) h = least-from p ps
 
-  pub least-is : (m : List ℕ) (ps : List (List ℕ)) → Least ws m ps → m ≡ leastOf ws ps
+  least-is : (m : List ℕ) (ps : List (List ℕ)) → Least ws m ps → m ≡ leastOf ws ps
   unfolding leastOf
   least-is m [] h = let z : ⊥ = omega (arith, h .listed) in absurd z
-  least-is m (p ∷ ps) h = let k = least-from p ps in less-total ws m (leastFrom ws p ps) (k .least m (h .listed)) (h .least _ (k .listed))
+  least-is m (p ∷ ps) h =
+      let k = least-from p ps in less-total ws m (leastFrom ws p ps) (k .least m (h .listed)) (h .least _ (k .listed))
 
 -- whether an assignment dominates some open node
 pub dominates-listed : (c q : List ℕ) (ps : List (List ℕ)) → Listed q ps → dominates c q ≡ true → dominatesSome c ps ≡ true
 dominates-listed c q [] h e = let z : ⊥ = omega arith in absurd z
-dominates-listed c q (r ∷ ps) h e = elim (listed-cases q r ps h) [ inl s ↦ rw (← s, e) | inr s ↦ elim (bool (dominates c r)) [ inl t ↦ rw t | inr t ↦ rw t (dominates-listed c q ps s e) ] ]
+dominates-listed c q (r ∷ ps) h e = elim (listed-cases q r ps h) [
+  | inl s ↦ rw (← s, e)
+  | inr s ↦ elim (bool (dominates c r)) [ inl t ↦ rw t | inr t ↦ rw t (dominates-listed c q ps s e) ]
+]
 
-pub dominated : (c : List ℕ) (ps : List (List ℕ)) → dominatesSome c ps ≡ true → (q : List ℕ) × Listed q ps × (dominates c q ≡ true)
+pub dominated : (c : List ℕ) (ps : List (List ℕ)) → dominatesSome c ps ≡ true
+    → (q : List ℕ) × Listed q ps × (dominates c q ≡ true)
 dominated c [] e = absurd (false≢true e)
-dominated c (r ∷ ps) e = elim (or-cases (dominates c r) (dominatesSome c ps) e) [ inl t ↦ (r, listed-here r ps, t) | inr t ↦ let k = dominated c ps t in (k .0, omega (arith, k .1), k .2) ]
+dominated c (r ∷ ps) e = elim (or-cases (dominates c r) (dominatesSome c ps) e) [
+  | inl t ↦ (r, listed-here r ps, t)
+  | inr t ↦ let k = dominated c ps t in (k .0, omega (arith, k .1), k .2)
+]
 
 -- children kept: those that dominate no open node
-pub occurrences-kept : (p : List ℕ) (cs ps : List (List ℕ)) → occurrences p (kept cs ps) ≡ cond (dominatesSome p ps) 0 (occurrences p cs)
+pub occurrences-kept : (p : List ℕ) (cs ps : List (List ℕ))
+    → occurrences p (kept cs ps) ≡ cond (dominatesSome p ps) 0 (occurrences p cs)
 occurrences-kept p [] ps = elim (bool (dominatesSome p ps)) [ inl e ↦ rw e | inr e ↦ rw e ]
 occurrences-kept p (c ∷ cs) ps = let k = occurrences-kept p cs ps in elim (bool (dominatesSome p ps)) [
   | inl d ↦ elim (bool (dominatesSome c ps)) [
@@ -128,11 +146,13 @@ occurrences-kept p (c ∷ cs) ps = let k = occurrences-kept p cs ps in elim (boo
 ]
 
 pub kept-le : (p : List ℕ) (cs ps : List (List ℕ)) → occurrences p (kept cs ps) ≤ occurrences p cs
-kept-le p cs ps = let k = occurrences-kept p cs ps in elim (bool (dominatesSome p ps)) [ inl e ↦ omega (arith, rw e at k) | inr e ↦ omega (arith, rw e at k) ]
+kept-le p cs ps =
+    let k = occurrences-kept p cs ps in
+    elim (bool (dominatesSome p ps)) [ inl e ↦ omega (arith, rw e at k) | inr e ↦ omega (arith, rw e at k) ]
 
 -- lists that hold the same nodes
 module _ (ps qs : List (List ℕ)) (s : SameNodes ps qs) where
-  pub same-nodes-sym : SameNodes qs ps
+  same-nodes-sym : SameNodes qs ps
   same-nodes-sym p = sym (s p)
 
   pub same-nodes-without : (q : List ℕ) → SameNodes (without q ps) (without q qs)
@@ -143,7 +163,9 @@ module _ (ps qs : List (List ℕ)) (s : SameNodes ps qs) where
 
   pub same-least : (ws : List ℕ) → leastOf ws ps ≡ leastOf ws qs
   same-least ws = elim (le-or-lt 1 (length ps)) [
-    | inl h ↦ let k = least-of ws ps h in least-is ws (leastOf ws ps) qs (record { listed = omega (arith, k .listed, s (leastOf ws ps)); least = λ q t. k .least q (omega (arith, s q)) })
+    | inl h ↦ let k = least-of ws ps h in
+        least-is ws (leastOf ws ps) qs
+        (record { listed = omega (arith, k .listed, s (leastOf ws ps)); least = λ q t. k .least q (omega (arith, s q)) })
     | inr h ↦ empty ps qs (omega arith) (omega (arith, same-length))
   ]
     where
@@ -152,16 +174,19 @@ module _ (ps qs : List (List ℕ)) (s : SameNodes ps qs) where
       empty [] (q ∷ qs) e f = let z : ⊥ = omega arith in absurd z
       empty (p ∷ ps) qs e f = let z : ⊥ = omega arith in absurd z
 
-  pub same-dominated : (c : List ℕ) → dominatesSome c ps ≡ true → dominatesSome c qs ≡ true
+  same-dominated : (c : List ℕ) → dominatesSome c ps ≡ true → dominatesSome c qs ≡ true
   same-dominated c e = let k = dominated c ps e in dominates-listed c (k .0) qs (omega (arith, k .1, s (k .0))) (k .2)
 
-pub same-kept : (cs ps qs : List (List ℕ)) → SameNodes ps qs → kept cs ps ≡ kept cs qs
+same-kept : (cs ps qs : List (List ℕ)) → SameNodes ps qs → kept cs ps ≡ kept cs qs
 same-kept [] ps qs s = refl
 same-kept (c ∷ cs) ps qs s = let k = same-kept cs ps qs s in elim (bool (dominatesSome c ps)) [
   | inl e ↦ rw (e, same-dominated ps qs s c e) k
-  | inr e ↦ let f : dominatesSome c qs ≡ false = not-false (λ t. both (same-dominated qs ps (same-nodes-sym ps qs s) c t) e) in rw (e, f) (ap (λ z. c ∷ z) k)
+  | inr e ↦ let f = not-false (λ t. both (same-dominated qs ps (same-nodes-sym ps qs s) c t) e) in
+      rw (e, f) (ap (λ z. c ∷ z) k)
 ]
 
--- the open nodes after a round, whatever the order of the others
-pub same-next : (cs ps qs rs : List (List ℕ)) → SameNodes ps qs → SameNodes rs (ps ++ kept cs ps) → SameNodes (qs ++ kept cs qs) rs
-same-next cs ps qs rs s t p = omega (arith, s p, t p, occurrences-append p ps (kept cs ps), occurrences-append p qs (kept cs qs), ap (occurrences p) (same-kept cs ps qs s))
+-- the open nodes with the children kept
+pub same-expanded : (cs ps qs : List (List ℕ)) → SameNodes ps qs → SameNodes (ps ++ kept cs ps) (qs ++ kept cs qs)
+same-expanded cs ps qs s p =
+    rw (← same-kept cs ps qs s)
+    (omega (arith, s p, occurrences-append p ps (kept cs ps), occurrences-append p qs (kept cs ps)))

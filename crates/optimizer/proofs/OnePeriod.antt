@@ -1,98 +1,103 @@
 -- One period changed: what a task's response time at one value tells of the others.
-use mathlib.Core.Path.{_≡_, sym, _∙_}
+use mathlib.Core.Path.{_≡_, sym, ap, _∙_}
 use mathlib.Core.Bool.{true}
 use mathlib.Core.Logic.{inl, inr}
 use mathlib.Core.List.{List}
-use Prim.Native.Nat.{ℕ, zero, suc, _*_, _≤_, _<_}
+use Prim.Native.Nat.{ℕ, _≤_, _<_}
 use native.Mathlib.Omega.{arith}
 use native.Mathlib.Nat.{le-trans, mul-le-mul-left}
 use lib.Dec.{leb}
 use lib.ListN.{length, getD, set}
 use lib.Seq.{getD-set-same, getD-set-other}
-use borrow.Author.Tests.{leb-true, le-leb, lt-leb}
+use borrow.Author.Tests.{le-leb, lt-leb}
+use Rattle.plan.specs.declared.record.Task.{Task}
+use Rattle.plan.specs.Tasks.{taskAt}
 use Rattle.plan.proofs.Tests.{le-or-lt, eq-or-ne, not-false}
-use Rattle.response.specs.Analysis.{Timing, ceiling, ownDemand, responseTime, meets}
+use Rattle.response.specs.Analysis.{ceiling, ownDemand, deadline, deadlineAt, responseUpTo, responseTime, meets}
 use Rattle.response.specs.Claims.{Covers}
 use Rattle.response.specs.Inner.{Begins}
-use Rattle.response.proofs.Ceiling.{ceiling-le, le-ceiling}
+use Rattle.response.proofs.Ceiling.{ceiling-le, le-ceiling, ceiling-some}
 use Rattle.response.proofs.Demand.{demand-less, demand-same}
 use Rattle.response.proofs.Exactness.{response-exact}
 use Rattle.response.proofs.Dominance.{set-mono}
-use Rattle.response.proofs.Sustainable.{covers-up}
+use Rattle.response.proofs.Sustainable.{covers-up, meets-covers, covers-meets}
 
--- the least period at which a task runs as often by time t as at period p
+-- the least period at which a task is released as often before time t as at period p
 abbrev pub alike : ℕ → ℕ → ℕ
 alike t p = ceiling t (ceiling t p)
 
-up : (t p : ℕ) → 1 ≤ p → t ≤ ceiling t p * p
-up t zero h = let z : ⊥ = omega arith in absurd z
-up t (suc p) h = le-ceiling t p
-
-down : (t p k : ℕ) → 1 ≤ p → t ≤ k * p → ceiling t p ≤ k
-down t zero k h l = let z : ⊥ = omega arith in absurd z
-down t (suc p) k h l = ceiling-le t p k l
-
-pub ceiling-some : (t p : ℕ) → 1 ≤ t → 1 ≤ p → 1 ≤ ceiling t p
-ceiling-some t p s h = elim (le-or-lt 1 (ceiling t p)) [
-  | inl l ↦ l
-  | inr l ↦ let e : ceiling t p ≡ 0 = omega arith in let z : t ≤ 0 * p = rw e at (up t p h) in omega arith
-]
-
-pub ceiling-upto : (t p : ℕ) → 1 ≤ p → ceiling t p ≤ t
-ceiling-upto t p h = down t p t h (omega (arith, mul-le-mul-left t h))
-
 module _ (t p : ℕ) (s : 1 ≤ t) (h : 1 ≤ p) where
   pub alike-le : alike t p ≤ p
-  alike-le = down t (ceiling t p) p (ceiling-some t p s h) (omega (arith, up t p h))
+  alike-le = ceiling-le t (ceiling t p) p (ceiling-some t p s h) (omega (arith, le-ceiling t p h))
 
-  pub alike-runs : (q : ℕ) → alike t p ≤ q → ceiling t q ≤ ceiling t p
-  alike-runs q l =
+  pub alike-releases : (q : ℕ) → alike t p ≤ q → ceiling t q ≤ ceiling t p
+  alike-releases q l =
       let m = ceiling-some t p s h in
-      down t q (ceiling t p) (omega (arith, ceiling-some t (ceiling t p) s m)) (le-trans (up t (ceiling t p) m) (omega (arith, mul-le-mul-left (ceiling t p) l)))
+      ceiling-le t q (ceiling t p) (omega (arith, ceiling-some t (ceiling t p) s m))
+      (le-trans (le-ceiling t (ceiling t p) m) (omega (arith, mul-le-mul-left (ceiling t p) l)))
 
-meets-covers : (T : Timing) (xs : List ℕ) (i t : ℕ) → 1 ≤ ownDemand T i → Covers T xs i t → meets T xs i ≡ true
-meets-covers T xs i t w c = le-leb 1 (responseTime T xs i) (response-exact T xs i w .least t c .0)
+-- a response time does not pass its limit
+pub response-early : (limit : ℕ) (ts : List Task) (xs : List ℕ) (i : ℕ) → 1 ≤ ownDemand (taskAt ts i)
+    → responseUpTo limit ts xs i ≤ limit
+response-early limit ts xs i w = elim (le-or-lt 1 (responseUpTo limit ts xs i)) [
+  | inl h ↦ response-exact limit ts xs i w .covers h .early
+  | inr h ↦ omega arith
+]
 
-module _ (T : Timing) (u : List ℕ) (i : ℕ) (b : i < length u) where
-  -- task i's own period bounds its deadline and has no part in its demand
-  own-covers : (p q t : ℕ) → t ≤ q → Covers T (set u i p) i t → Covers T (set u i q) i t
-  own-covers p q t h c =
-      record {
-        some = c .some;
-        early = omega (arith, c .early, getD-set-same u i q 0 b);
-        covers = omega (arith, c .covers, demand-same T (set u i p) (set u i q) i t (λ k l. getD-set-other u i k p 0 (λ e. omega arith) ∙ sym (getD-set-other u i k q 0 (λ e. omega arith))));
-      }
+module _ (ts : List Task) (u : List ℕ) (i : ℕ) where
+  -- the deadline of another task stays
+  pub deadline-other : (k p : ℕ) → (k ≡ i → ⊥) → deadlineAt ts (set u i p) k ≡ deadlineAt ts u k
+  deadline-other k p n = ap (deadline (taskAt ts k)) (getD-set-other u i k p 0 n)
 
-  pub own-meets : (most : ℕ) {r : ℕ} → 1 ≤ ownDemand T i → r ≡ responseTime T (set u i most) i → 1 ≤ r → (v : ℕ) → v ≤ most → meets T (set u i v) i ≡ leb r v
-  own-meets most {r} w is s v h = let x = response-exact T (set u i most) i w in elim (le-or-lt r v) [
-    | inl l ↦ rw (le-leb r v l) (meets-covers T (set u i v) i r w (own-covers most v r l (rw (← is) at (x .covers (omega arith)))))
-    | inr l ↦ rw (lt-leb r v l) (not-false (λ e.
-        let y = response-exact T (set u i v) i w .covers (leb-true 1 (responseTime T (set u i v) i) e) in
-        omega (arith, getD-set-same u i v 0 b, y .early, x .least (responseTime T (set u i v) i) (own-covers v most (responseTime T (set u i v) i) (omega (arith, getD-set-same u i v 0 b, y .early)) y))))
-  ]
+  module _ (b : i < length u) where
+    -- task i's own period bounds its deadline and has no part in its demand
+    own-covers : (p q t : ℕ) → t ≤ q
+        → Covers (deadlineAt ts (set u i p) i) ts (set u i p) i t → Covers (deadlineAt ts (set u i q) i) ts (set u i q) i t
+    own-covers p q t h c =
+        let other : (x k : ℕ) → k < i → getD (set u i x) k 0 ≡ getD u k 0 = λ x k l. getD-set-other u i k x 0 (λ e. omega arith) in
+        record {
+          some = c .some;
+          early = omega (arith, c .early, getD-set-same u i q 0 b);
+          covers = omega (arith, c .covers, demand-same ts (set u i p) (set u i q) i t (λ k l. other p k l ∙ sym (other q k l)));
+        }
 
-  -- task k below meets its deadline wherever task i runs no more often within its response time
-  pub runs-meets : (k p : ℕ) {r : ℕ} → i < k → 1 ≤ ownDemand T k → r ≡ responseTime T (set u i p) k → 1 ≤ r → (q : ℕ) → ceiling r q ≤ ceiling r p → meets T (set u i q) k ≡ true
-  runs-meets k p {r} below w is s q h =
-      let c : Covers T (set u i p) k r = rw (← is) at (response-exact T (set u i p) k w .covers (omega arith)) in
-      let other : (x j : ℕ) → (j ≡ i → ⊥) → getD (set u i x) j 0 ≡ getD u j 0 = λ x j n. getD-set-other u i j x 0 n in
-      meets-covers T (set u i q) k r w (record {
-        some = s;
-        early = omega (arith, c .early, other p k (λ e. omega arith), other q k (λ e. omega arith));
-        covers = omega (
-          arith,
-          c .covers,
-          demand-less T (set u i p) (set u i q) k r (λ j l. elim (eq-or-ne j i) [
-            | inl e ↦ rw (e, getD-set-same u i p 0 b, getD-set-same u i q 0 b) h
-            | inr n ↦ rw (other p j n, other q j n) (omega arith)
-          ]),
-        );
-      })
+    -- so task i meets its deadline from its response time on
+    pub own-meets : (most : ℕ) {r : ℕ} → 1 ≤ ownDemand (taskAt ts i) → r ≡ responseTime ts (set u i most) i → 1 ≤ r
+        → (v : ℕ) → v ≤ most → meets ts (set u i v) i ≡ leb r v
+    own-meets most {r} w is s v h =
+        let x = response-exact (deadlineAt ts (set u i most) i) ts (set u i most) i w in
+        elim (le-or-lt r v) [
+          | inl l ↦ rw (le-leb r v l)
+              (covers-meets ts i w (set u i v) (own-covers most v r l (rw (← is) at (x .covers (omega arith)))))
+          | inr l ↦ rw (lt-leb r v l) (not-false (λ e.
+              let y = meets-covers ts i w (set u i v) e in
+              let t = responseTime ts (set u i v) i in
+              let early : t ≤ v = omega (arith, getD-set-same u i v 0 b, y .early) in
+              omega (arith, x .least t (own-covers v most t (omega arith) y))))
+        ]
 
--- a task below responds no earlier at a shorter period of task i
-module _ (T : Timing) (u : List ℕ) (i k : ℕ) (w : 1 ≤ ownDemand T k) {y : ℕ} (some : (j : ℕ) → j < k → 1 ≤ getD (set u i y) j 0) where
-  pub raised-begins : {p r : ℕ} → r ≡ responseTime T (set u i p) k → 1 ≤ r → y ≤ p → Begins T (set u i y) k r
-  raised-begins {p} is s l = record {
-    some = s;
-    below = λ t c. rw is (response-exact T (set u i p) k w .least t (covers-up T (set u i y) (set u i p) k t some (λ j h. set-mono u i l j) c) .1);
-  }
+    -- task k below meets its deadline wherever task i is released no more often within its response time
+    module _ (k : ℕ) (below : i < k) (w : 1 ≤ ownDemand (taskAt ts k)) where
+      pub released-meets : (p : ℕ) {r : ℕ} → r ≡ responseTime ts (set u i p) k → 1 ≤ r
+          → (q : ℕ) → ceiling r q ≤ ceiling r p → meets ts (set u i q) k ≡ true
+      released-meets p {r} is s q h =
+          let c = rw (← is) at (response-exact (deadlineAt ts (set u i p) k) ts (set u i p) k w .covers (omega arith)) in
+          covers-meets ts k w (set u i q) {t = r} (record {
+            some = s;
+            early = omega (arith, c .early, deadline-other k p (λ e. omega arith), deadline-other k q (λ e. omega arith));
+            covers = omega (
+              arith,
+              c .covers,
+              demand-less ts (set u i p) (set u i q) k r (λ j l. elim (eq-or-ne j i) [
+                | inl e ↦ rw (e, getD-set-same u i p 0 b, getD-set-same u i q 0 b) h
+                | inr n ↦ rw (getD-set-other u i j p 0 n, getD-set-other u i j q 0 n) (omega arith)
+              ]),
+            );
+          })
+
+  -- and responds no earlier at a shorter period of task i
+  pub shorter-begins : (k : ℕ) → 1 ≤ ownDemand (taskAt ts k) → {y p r : ℕ} → ((j : ℕ) → j < k → 1 ≤ getD (set u i y) j 0)
+      → r ≡ responseTime ts (set u i p) k → 1 ≤ r → y ≤ p → Begins (deadlineAt ts (set u i y) k) ts (set u i y) k r
+  shorter-begins k w {y} {p} some is s l =
+      let x = response-exact (deadlineAt ts (set u i p) k) ts (set u i p) k w in
+      record { some = s; below = λ t c. rw is (x .least t (covers-up ts (set u i y) (set u i p) k t some (λ j h. set-mono u i l j) c) .1) }

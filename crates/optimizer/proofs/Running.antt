@@ -1,65 +1,68 @@
--- CHEAPEST's loop while it runs: the open nodes that it holds lead where the search leads. One law for each way that a round goes.
-use mathlib.Core.Path.{_≡_, sym, _∙_}
-use mathlib.Core.Bool.{Bool, true, false}
-use mathlib.Core.List.{List, [], _∷_, _++_}
-use Prim.Native.Nat.{ℕ, suc, _+_, _-_, _≤_, _<_}
+-- The search by a lawful rule while it runs: the open nodes lead where the search leads. One law for each way that a round goes.
+use mathlib.Core.Path.{_≡_, refl, sym, _∙_}
+use mathlib.Core.Bool.{Bool}
+use mathlib.Core.List.{List, []}
+use Prim.Native.Nat.{ℕ, suc, _-_, _≤_, _<_}
 use native.Mathlib.Nat.{sub-zero}
 use native.Mathlib.Omega.{arith}
 use lib.ListN.{length}
 use Rattle.plan.specs.declared.record.Task.{Task}
-use Rattle.plan.specs.Tasks.{periodMins, periodMaxs, weights}
 use Rattle.response.specs.Assignments.{cost}
 use Rattle.response.proofs.Bounds.{Within}
-use Rattle.optimizer.specs.Nodes.{leastOf, without, kept, SameNodes}
-use Rattle.optimizer.specs.Rule.{ended, searchFrom}
-use Rattle.optimizer.specs.Search.{mua, childrenFrom, children, rule, search}
-use Rattle.optimizer.proofs.Multiset.{same-next}
-use Rattle.optimizer.proofs.Steps.{search-spent, search-answer, search-full, search-on}
-use Rattle.optimizer.proofs.Optimal.{Open, open-start, open-same, open-step, never-empty, least-within}
-use Rattle.optimizer.proofs.Maximal.{Sound, mua-fails}
-use Rattle.optimizer.proofs.Branching.{over, branches-of, lawful}
+use Rattle.optimizer.specs.declared.children.Step.the-variants.{Answered, Listed, Full}
+use Rattle.optimizer.specs.Rule.{Rule, End, ended, least, next, searchFrom}
+use Rattle.optimizer.specs.Search.{start}
+use Rattle.optimizer.specs.Inner.{Goes}
+use Rattle.optimizer.proofs.Multiset.{same-length}
+use Rattle.optimizer.proofs.Steps.{search-same, search-spent, search-answer, search-full, search-on}
+use Rattle.optimizer.proofs.Optimal.{Lawful, Open, open-start, open-same, open-next, carried-next, never-empty, least-within}
 
-pub record Running (ts : List Task) (test : List ℕ → Bool) (budget room rounds : ℕ) (nodes : List (List ℕ)) : Type 0 where
-  pub upto : rounds ≤ budget
-  pub opened : Open ts test nodes
-  pub same : searchFrom (rule (over ts test)) (budget - rounds) room rounds tt nodes ≡ search (over ts test) budget room
+-- after so many rounds, with the state s and the open nodes ps; the search leads to goal
+pub record Running (ts : List Task) (test : List ℕ → Bool) (R : Rule) (Carried : R .State → Type 0) (goal : End (R .State))
+    (budget room rounds : ℕ) (s : R .State) (ps : List (List ℕ)) : Type 0 where
+  pub lawful : Lawful ts test R Carried
+  pub carried : Carried s
+  pub opened : Open ts test ps
+  pub same : searchFrom R (budget - rounds) room rounds s ps ≡ goal
 
-pub running-start : {ts : List Task} {test : List ℕ → Bool} → Sound ts test → (budget room : ℕ) → Running ts test budget room 0 (periodMins ts ∷ [])
-running-start {ts} {test} 𝓢 budget room = record { upto = omega arith; opened = open-start ts test (𝓢 .ranged); same = rw (sub-zero budget) }
+module _ {ts : List Task} {test : List ℕ → Bool} {R : Rule} {Carried : R .State → Type 0} where
+  pub running-start : Lawful ts test R Carried → (s : R .State) → Carried s → (budget room : ℕ)
+      → Running ts test R Carried (searchFrom R budget room 0 s (start ts)) budget room 0 s (start ts)
+  running-start 𝓛 s c budget room =
+      record { lawful = 𝓛; carried = c; opened = open-start ts test (𝓛 .ranged); same = rw (sub-zero budget) refl }
 
-module _ {ts : List Task} {test : List ℕ → Bool} (𝓢 : Sound ts test) (top : test (periodMaxs ts) ≡ true)
-    {budget room rounds : ℕ} {nodes : List (List ℕ)} (g : Running ts test budget room rounds nodes) where
-  pub running-some : 1 ≤ length nodes
-  running-some = never-empty (lawful 𝓢 top) (g .opened)
+  module _ {goal : End (R .State)} {budget room rounds : ℕ} {s : R .State} {ps : List (List ℕ)}
+      (g : Running ts test R Carried goal budget room rounds s ps) where
+    pub running-some : 1 ≤ length ps
+    running-some = never-empty (g .lawful) (g .opened)
 
-  module _ {l : List ℕ} (is : l ≡ leastOf (weights ts) nodes) where
-    pub running-within : Within ts l
-    running-within = rw is (least-within (lawful 𝓢 top) (g .opened))
+    pub running-within : Within ts (least R ps)
+    running-within = least-within (g .lawful) (g .opened)
 
-    pub running-spent : budget ≤ rounds → search (over ts test) budget room ≡ ended 33 [] rounds (cost (weights ts) l) tt
-    running-spent h = let z : budget - rounds ≡ 0 = omega arith in sym (rw z at (g .same)) ∙ search-spent (rule (over ts test)) room rounds tt nodes l is
+    pub running-spent : budget ≤ rounds → goal ≡ ended 33 [] rounds (cost (R .weights) (least R ps)) s
+    running-spent h = let z : budget - rounds ≡ 0 = omega arith in sym (rw z at (g .same)) ∙ search-spent R room rounds s ps
 
-    module _ (h : rounds < budget) where
-      goes : searchFrom (rule (over ts test)) (suc (budget - suc rounds)) room rounds tt nodes ≡ search (over ts test) budget room
-      goes = let z : budget - rounds ≡ suc (budget - suc rounds) = omega arith in rw z at (g .same)
+    -- a round, and what the work space then holds
+    module _ (h : rounds < budget) (then : ℕ → List (List ℕ)) where
+      begun : searchFrom R (suc (budget - suc rounds)) room rounds s ps ≡ goal
+      begun = let z : budget - rounds ≡ suc (budget - suc rounds) = omega arith in rw z at (g .same)
 
-      pub running-answer : test l ≡ true → search (over ts test) budget room ≡ ended 0 l (suc rounds) 0 tt
-      running-answer e = sym goes ∙ search-answer (rule (over ts test)) room rounds tt nodes l is (budget - suc rounds) e
+      pub running-answered : Goes R s room ps then Answered → goal ≡ ended 0 (least R ps) (suc rounds) 0 s
+      running-answered e = sym begun ∙ search-answer R room rounds s ps (budget - suc rounds) e
 
-      module _ (e : test l ≡ false) {u : List ℕ} (is-mua : u ≡ mua test (periodMaxs ts) l) (r : List (List ℕ)) (taken : SameNodes r (without (leastOf (weights ts) nodes) nodes)) where
-        abbrev cs : List (List ℕ)
-        cs = kept (childrenFrom (length l) (periodMaxs ts) l u 0) r
+      pub running-full : Goes R s room ps then Full
+          → goal ≡ ended 34 [] (suc rounds) (cost (R .weights) (least R ps)) (R .after s (least R ps))
+      running-full e = sym begun ∙ search-full R room rounds s ps (budget - suc rounds) (e .0) (e .1)
 
-        cs-is : cs ≡ kept (children (over ts test) l) r
-        unfolding children
-        cs-is = rw is-mua
-
-        pub running-full : room < length r + length cs → search (over ts test) budget room ≡ ended 34 [] (suc rounds) (cost (weights ts) l) tt
-        running-full f = sym goes ∙ search-full (rule (over ts test)) room rounds tt nodes l is (budget - suc rounds) e r taken (rw cs-is at f)
-
-        pub running-on : length r + length cs ≤ room → (nodes′ : List (List ℕ)) → SameNodes nodes′ (r ++ cs) → Running ts test budget room (suc rounds) nodes′
-        running-on f nodes′ s = record {
-          upto = h;
-          opened = open-same (open-step (g .opened) (branches-of 𝓢 running-within (rw is-mua (mua-fails test running-within e)))) nodes′ (same-next (childrenFrom (length l) (periodMaxs ts) l u 0) r (without l nodes) nodes′ (rw is taken) s);
-          same = sym (search-on (rule (over ts test)) room rounds tt nodes l is (budget - suc rounds) e r taken (rw cs-is at f) nodes′ (rw cs-is at s)) ∙ goes;
-        }
+      pub running-listed : (m : ℕ) → length (then m) ≡ m → Goes R s room ps then (Listed m)
+          → Running ts test R Carried goal budget room (suc rounds) (R .after s (least R ps)) (then m)
+      running-listed m l e =
+          let after = R .after s (least R ps) in
+          let few : length (next R s ps) ≤ room = omega (arith, same-length (then m) (next R s ps) (e .1 .1), e .1 .0) in
+          record {
+            lawful = g .lawful;
+            carried = carried-next (g .lawful) s (g .carried) (g .opened) (e .0);
+            opened = open-same (next R s ps) (then m) (e .1 .1) (open-next (g .lawful) s (g .carried) (g .opened) (e .0));
+            same = search-same R (budget - suc rounds) room (suc rounds) after (then m) (next R s ps) (e .1 .1)
+                ∙ sym (search-on R room rounds s ps (budget - suc rounds) (e .0) few) ∙ begun;
+          }

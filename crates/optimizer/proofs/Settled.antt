@@ -1,62 +1,63 @@
 -- Demand 3, of the outcome that the definitions give.
-use mathlib.Core.Path.{_≡_, sym, ap, _∙_}
-use mathlib.Core.Bool.{Bool, true, false, not, true≢false}
+use mathlib.Core.Path.{_≡_, sym, ap, _∙_, subst}
+use mathlib.Core.Bool.{Bool, true, false, not}
 use mathlib.Core.Logic.{_⊎_, inl, inr}
-use mathlib.Core.List.{List, [], _∷_}
-use Prim.Native.Nat.{ℕ, _<_}
+use mathlib.Core.List.{List}
+use Prim.Native.Nat.{ℕ, suc, _≤_, _<_}
 use native.Mathlib.Omega.{arith}
 use lib.Dec.{ltb}
-use lib.ListN.{length, length-map}
-use borrow.Author.Tests.{eqb-true, eq-eqb, ltb-true, not-false}
+use lib.ListN.{length}
+use borrow.Author.Tests.{eq-eqb, ltb-true, not-false}
 use Rattle.plan.specs.declared.record.Task.{Task}
-use Rattle.plan.specs.Faults.{Fault, passed, firstFault, firstFrom}
-use Rattle.plan.specs.Tasks.{periodMaxs}
-use Rattle.plan.specs.Files.{fileFault, accepted}
-use Rattle.plan.proofs.Tests.{bool, eq-or-ne}
-use Rattle.plan.proofs.Rules.{or-first, or-second, or-next, or-here, if-passed, run-some}
-use Rattle.plan.proofs.Accepted.{AllSane}
-use Rattle.response.specs.Analysis.{timingOf, ownDemand, deadline, schedulable}
-use Rattle.response.specs.Promises.{spaceFault}
-use Rattle.response.proofs.Bounds.{maxs-within, true-within}
+use Rattle.plan.specs.declared.faults.Fault.{Fault}
+use Rattle.plan.specs.Faults.{firstFrom}
+use Rattle.plan.specs.Tasks.{taskAt, AllValid, periodMaxs, weights}
+use Rattle.plan.proofs.Tests.{bool, eq-or-ne, both}
+use Rattle.plan.proofs.Rules.{or-second, or-next, or-here, if-passed, run-some}
+use Rattle.response.specs.Analysis.{ownDemand, deadline, deadlineAt, schedulable}
+use Rattle.response.specs.Assignments.{withinBounds}
+use Rattle.response.proofs.Bounds.{within-true, maxs-within, true-within}
 use Rattle.response.proofs.Exactness.{response-past}
-use Rattle.response.proofs.Sustainable.{schedulable-none}
-use Rattle.response.proofs.Plans.{ranged, sustainable-within}
-use Rattle.optimizer.specs.Search.{problemOf, search}
-use Rattle.optimizer.specs.Claims.{Settles}
-use Rattle.optimizer.specs.Promises.{workFault, callFault, aloneFault, noneFault, tasksFault, searched}
+use Rattle.response.proofs.Sustainable.{schedulable-none, schedulable-covers, covers-schedulable}
+use Rattle.response.proofs.Ranges.{max-at, ranged, sustainable-within}
+use Rattle.optimizer.specs.Rule.{Rule, searchFrom}
+use Rattle.optimizer.specs.Search.{start}
+use Rattle.optimizer.specs.Claims.{Feasible, Infeasible, IsNone, Settles}
+use Rattle.optimizer.specs.Promises.{aloneFault, noneFault, infeasibleFault, refused, searched}
 use Rattle.optimizer.proofs.Maximal.{Sound}
-use Rattle.optimizer.proofs.Guarantees.{infeasible, search-optimal, search-rounds, search-answers, search-budget}
+use Rattle.optimizer.proofs.Optimal.{Lawful, Optimal}
+use Rattle.optimizer.proofs.Guarantees.{search-optimal, search-rounds, search-answers, search-budget}
 
-pub sound : {ts : List Task} → AllSane ts → Sound ts (schedulable (timingOf ts))
-sound a = record { ranged = ranged a; monotone = λ xs ys v w m e. sustainable-within a v w m e }
+pub sound : {ts : List Task} → AllValid ts → Sound ts (schedulable ts)
+sound {ts} v = record { ranged = ranged ts v; monotone = λ xs ys w w′ m e. sustainable-within ts v w ys m e }
 
-pub call-accepted : (s : List ℕ) (space work : ℕ) → passed (callFault s space work) ≡ true → accepted s ≡ true
-unfolding callFault
-call-accepted s space work e = eq-eqb (fileFault s .number) 0 (or-first (fileFault s) (firstFault (spaceFault s space ∷ workFault s work ∷ [])) (eqb-true _ 0 e))
+pub of-two : (m : ℕ) {n : ℕ} → (n ≡ m) ⊎ (n ≡ suc m) → (m ≤ n) × (n ≤ suc m)
+of-two m k = elim k [ inl e ↦ (omega arith, omega arith) | inr e ↦ (omega arith, omega arith) ]
 
 -- 31 and 32
 module _ (ts : List Task) where
   abbrev longest : Bool
-  longest = schedulable (timingOf ts) (periodMaxs ts)
+  longest = schedulable ts (periodMaxs ts)
 
-  abbrev alone : Fault
-  alone = firstFrom (aloneFault (timingOf ts) (periodMaxs ts)) (length ts) 0
+  abbrev pub alone : Fault
+  alone = firstFrom (aloneFault ts) (length ts) 0
 
-  alone-number : (i : ℕ) → (aloneFault (timingOf ts) (periodMaxs ts) i .number ≡ 0 → ⊥) → i < length ts → (aloneFault (timingOf ts) (periodMaxs ts) i .number ≡ 31) × (longest ≡ false)
-  alone-number i h l = elim (bool (ltb (deadline (timingOf ts) (periodMaxs ts) i) (ownDemand (timingOf ts) i))) [
-    | inl t ↦ let r = response-past (timingOf ts) (periodMaxs ts) i (ltb-true _ _ t) in
-        (rw t, schedulable-none (timingOf ts) (periodMaxs ts) i (omega (arith, length-map ts (λ (u : Task). u .wcet))) (rw r))
+  alone-number : (i : ℕ) → (aloneFault ts i .number ≡ 0 → ⊥) → i < length ts → (aloneFault ts i .number ≡ 31) × (longest ≡ false)
+  alone-number i h l = elim (bool (ltb (deadline (taskAt ts i) (taskAt ts i .«period_max»)) (ownDemand (taskAt ts i)))) [
+    | inl t ↦ let short : deadlineAt ts (periodMaxs ts) i < ownDemand (taskAt ts i) = rw (max-at ts i) (ltb-true _ _ t) in
+        (rw t, schedulable-none ts (periodMaxs ts) i l (rw (response-past _ ts (periodMaxs ts) i short)))
     | inr t ↦ absurd (h (rw t))
   ]
 
-  pub tasks-pass : tasksFault ts .number ≡ 0 → longest ≡ true
-  unfolding tasksFault
-  tasks-pass e = not-false longest (if-passed (not longest) 31 _ (or-first (noneFault (timingOf ts) (periodMaxs ts)) (firstFault []) (or-second alone (firstFault (noneFault (timingOf ts) (periodMaxs ts) ∷ [])) e)))
+  pub tasks-pass : infeasibleFault ts .number ≡ 0 → longest ≡ true
+  unfolding infeasibleFault
+  tasks-pass e = not-false longest (if-passed (not longest) 31 _ (or-second alone (noneFault ts) e))
 
-  pub tasks-break : (tasksFault ts .number ≡ 0 → ⊥) → ((tasksFault ts .number ≡ 31) ⊎ (tasksFault ts .number ≡ 32)) × (longest ≡ false)
-  unfolding tasksFault
+  pub tasks-break : (infeasibleFault ts .number ≡ 0 → ⊥)
+      → ((infeasibleFault ts .number ≡ 31) ⊎ (infeasibleFault ts .number ≡ 32)) × (longest ≡ false)
+  unfolding infeasibleFault
   tasks-break h = elim (eq-or-ne (alone .number) 0) [
-    | inr z ↦ let k = run-some (aloneFault (timingOf ts) (periodMaxs ts)) (length ts) 0 z in
+    | inr z ↦ let k = run-some (aloneFault ts) (length ts) 0 z in
         let a = alone-number (k .0) (λ y. z (ap (λ f. f .number) (k .1 .1) ∙ y)) (omega (arith, k .1 .0)) in
         (inl (ap (λ f. f .number) (or-here alone _ z ∙ k .1 .1) ∙ a .0), a .1)
     | inl z ↦ elim (bool longest) [
@@ -65,40 +66,56 @@ module _ (ts : List Task) where
     ]
   ]
 
-no : {A : Type 0} → ⊥ → A
-no z = absurd z
+module _ {ts : List Task} (v : AllValid ts) (budget room : ℕ) (xs : List ℕ) where
+  met : (ys : List ℕ) → Feasible ts ys → schedulable ts ys ≡ true
+  met ys f = covers-schedulable ts v ys (f .met)
 
-module _ {ts : List Task} (a : AllSane ts) (budget room : ℕ) (xs : List ℕ) where
+  feasible : (ys : List ℕ) → withinBounds ts ys ≡ true → schedulable ts ys ≡ true → Feasible ts ys
+  feasible ys b e = record { bounded = b; met = schedulable-covers ts v ys e }
+
+  -- either the longest periods are schedulable, or nothing is
+  none-feasible : schedulable ts (periodMaxs ts) ≡ false → Infeasible ts
+  none-feasible e ys f =
+      let w = within-true ts ys (f .bounded) in
+      both (sound v .monotone ys (periodMaxs ts) w (maxs-within ts (ranged ts v)) (w .high) (met ys f)) e
+
   -- refused by 31 or 32
-  pub settles-refused : (tasksFault ts .number ≡ 0 → ⊥) → Settles ts budget room (tasksFault ts .number) 0 0 0 xs
+  pub settles-refused : (infeasibleFault ts .number ≡ 0 → ⊥) → Settles ts budget room (refused (infeasibleFault ts) .answer) xs
   settles-refused h =
-      let b = tasks-break ts h in let n : ℕ = tasksFault ts .number in
-      let stop : (n ≡ 33) ⊎ (n ≡ 34) → ⊥ = λ k. elim (b .0) [ inl p ↦ elim k [ inl q ↦ omega arith | inr q ↦ omega arith ] | inr p ↦ elim k [ inl q ↦ omega arith | inr q ↦ omega arith ] ] in
+      let b = tasks-break ts h in
       record {
-        answered = λ z. no (h z);
-        cheapest = λ z. no (h z);
-        infeasible = λ k ys f. true≢false (sym (f .met) ∙ infeasible (sound a) (b .1) ys (f .bounded));
-        feasible = λ f. b .0;
+        numbers = inr (inl (b .0));
+        answered = λ z. absurd (h z);
+        cheapest = λ z. absurd (h z);
+        infeasible = λ k. none-feasible (b .1);
+        feasible = λ k. b .0;
         stopped = λ k ys f. omega arith;
-        unstopped = λ p q k. stop k;
+        unstopped = λ p q ys f. absurd (none-feasible (b .1) ys f);
         few-rounds = omega arith;
         in-budget = omega arith;
       }
 
-  -- searched
-  pub settles-searched : tasksFault ts .number ≡ 0 → let e = search (problemOf ts) budget room in (e .number ≡ 0 → xs ≡ e .periods) → Settles ts budget room (e .number) (searched ts e .price) (e .rounds) (e .bound) xs
-  settles-searched z is =
-      let e = search (problemOf ts) budget room in
-      let top = tasks-pass ts z in
-      let o = search-optimal (sound a) top budget room in
-      let never : (e .number ≡ 31) ⊎ (e .number ≡ 32) → ⊥ = λ k. elim (o .number) [ inl p ↦ elim k [ inl q ↦ omega arith | inr q ↦ omega arith ] | inr p ↦ elim p [ inl r ↦ elim k [ inl q ↦ omega arith | inr q ↦ omega arith ] | inr r ↦ elim k [ inl q ↦ omega arith | inr q ↦ omega arith ] ] ] in
+  -- searched by a lawful rule
+  pub settles-searched : {R : Rule} {Carried : R .State → Type 0} → Lawful ts (schedulable ts) R Carried
+      → (s : R .State) → Carried s → let e = searchFrom R budget room 0 s (start ts) in
+      (e .number ≡ 0 → xs ≡ e .periods) → Settles ts budget room (searched (weights ts) e .answer) xs
+  settles-searched {R} 𝓛 s c is =
+      let e = searchFrom R budget room 0 s (start ts) in
+      let o : Optimal ts (schedulable ts) (weights ts) e =
+      subst (λ (ws : List ℕ). Optimal ts (schedulable ts) ws e) (𝓛 .weighs) (search-optimal 𝓛 c budget room) in
+      let never : IsNone (searched (weights ts) e .answer) → ⊥ =
+      λ k. let n = of-two 31 k in elim (o .number) [ inl z ↦ omega arith | inr z ↦ omega (arith, of-two 33 z) ] in
       record {
-        answered = λ n. let w = o .answered n in (record { bounded = rw (is n) (w .0); met = rw (is n) (w .1) }, rw (is n, eq-eqb (e .number) 0 n));
-        cheapest = λ n ys f d. elim (o .cheapest n ys (f .bounded) (f .met)) [ inl q ↦ no (d (sym q ∙ sym (is n))) | inr q ↦ rw (is n) q ];
-        infeasible = λ k. no (never k);
-        feasible = λ f. no (f (periodMaxs ts) (record { bounded = true-within ts (periodMaxs ts) (maxs-within ts (ranged a)); met = top }));
-        stopped = λ k ys f. o .stops (elim k [ inl q ↦ omega arith | inr q ↦ omega arith ]) ys (f .bounded) (f .met);
-        unstopped = λ p q k. let n = search-answers (sound a) top budget room p q in elim k [ inl r ↦ omega arith | inr r ↦ omega arith ];
-        few-rounds = search-rounds (sound a) top budget room;
-        in-budget = search-budget (problemOf ts) budget room;
+        numbers = elim (o .number) [ inl z ↦ inl z | inr z ↦ inr (inr z) ];
+        answered = λ z. let a = o .answered z in (rw (is z) (feasible (e .periods) (a .0) (a .1)), rw (is z, eq-eqb (e .number) 0 z));
+        cheapest = λ z ys f d. elim (o .cheapest z ys (f .bounded) (met ys f)) [
+          | inl q ↦ absurd (d (sym q ∙ sym (is z)))
+          | inr q ↦ rw (is z) q
+        ];
+        infeasible = λ k. absurd (never k);
+        feasible = λ f. absurd (f (periodMaxs ts) (feasible (periodMaxs ts) (true-within ts _ (maxs-within ts (𝓛 .ranged))) (𝓛 .top)));
+        stopped = λ k ys f. o .stops (of-two 33 k .0) ys (f .bounded) (met ys f);
+        unstopped = λ p q ys f. search-answers 𝓛 c budget room p q;
+        few-rounds = search-rounds 𝓛 c budget room;
+        in-budget = search-budget R budget room s (start ts);
       }

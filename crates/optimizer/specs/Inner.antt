@@ -4,21 +4,21 @@ use mathlib.Core.Bool.{Bool, true, false, cond}
 use mathlib.Core.List.{List, [], _∷_, _++_}
 use Prim.Native.Nat.{ℕ, zero, suc, _+_, _-_, _*_, _≤_, _<_}
 use lib.Dec.{eqb, ltb}
-use lib.ListN.{length, getD, take, drop, replicate}
+use lib.ListN.{length, getD, take, drop}
 use Rattle.plan.specs.declared.record.Task.{Task}
-use Rattle.plan.specs.Tasks.{maxTasks, maxWeight, wcets, deadlineCaps, periodMins, periodMaxs, weights}
-use Rattle.plan.proofs.Accepted.{AllSane}
-use Rattle.response.specs.Analysis.{timing, schedulable}
+use Rattle.plan.specs.Tasks.{maxTasks, AllValid, periodMaxs, weights}
+use Rattle.response.specs.Analysis.{schedulable}
+use Rattle.response.specs.Assignments.{cost, dominates, withinBounds}
 use Rattle.optimizer.specs.Nodes.{leastOf, without, dominatesSome, kept, SameNodes}
+use Rattle.optimizer.specs.Rule.{Rule, least, next}
 use Rattle.optimizer.specs.Search.{child, childrenFrom}
-use Rattle.response.specs.Assignments.{cost, dominates}
-use Rattle.optimizer.specs.Rule.{End}
-use Rattle.optimizer.specs.Promises.{Outcome, isSearched}
-use Rattle.optimizer.specs.declared.cheapest.Answer.{Answer}
+use Rattle.optimizer.specs.Promises.{Outcome, written}
+use Rattle.optimizer.specs.declared.answer.Answer.{Answer}
 use Rattle.optimizer.specs.declared.children.Drops.{Drops}
 use Rattle.optimizer.specs.declared.children.Drops.the-variants.{All, One, Nothing}
-use Rattle.optimizer.specs.declared.children.Listing.{Listing}
-use Rattle.optimizer.specs.declared.children.Listing.the-variants.{Listed, Full}
+use Rattle.optimizer.specs.declared.children.Step.{Step}
+use Rattle.optimizer.specs.declared.children.Step.the-variants.{Answered, Listed, Full}
+use Rattle.optimizer.specs.declared.round.Round.{Round}
 
 -- "Each corner is written into its own stretch of the work space": node k of n periods, and the first count nodes
 abbrev pub nodeAt : List ℕ → ℕ → ℕ → List ℕ
@@ -32,11 +32,11 @@ nodes (suc count) n work = take n work ∷ nodes count n (drop n work)
 abbrev pub put : List ℕ → ℕ → List ℕ → List ℕ
 put work at node = take at work ++ (node ++ drop (at + length node) work)
 
--- weights and periods whose cost 64 bits hold
-pub record Priced (ws xs : List ℕ) : Type 0 where
+-- tasks and periods whose cost 64 bits hold
+pub record Priced (ts : List Task) (xs : List ℕ) : Type 0 where
+  pub valid : AllValid ts
   pub few : length xs ≤ maxTasks
-  pub sized : length xs ≡ length ws
-  pub light : (i : ℕ) → getD ws i 0 ≤ maxWeight
+  pub sized : length xs ≡ length ts
 
 -- node k among count nodes of n periods
 pub record Removable (work : List ℕ) (n count k : ℕ) : Type 0 where
@@ -44,21 +44,23 @@ pub record Removable (work : List ℕ) (n count k : ℕ) : Type 0 where
   pub listed : k < count
   pub fits : count * n ≤ length work
 
--- a work space with count open nodes
-pub record Open (ws work : List ℕ) (count : ℕ) : Type 0 where
-  pub few : length ws ≤ maxTasks
-  pub light : (i : ℕ) → getD ws i 0 ≤ maxWeight
-  pub fits : count * length ws ≤ length work
+-- a work space with count open nodes, some of them
+pub record Holds (ts : List Task) (work : List ℕ) (count : ℕ) : Type 0 where
+  pub valid : AllValid ts
+  pub few : length ts ≤ maxTasks
+  pub some : 1 ≤ count
+  pub fits : count * length ts ≤ length work
 
-pub record IsLeast (ws work : List ℕ) (count k : ℕ) : Type 0 where
+pub record IsLeast (ts : List Task) (work : List ℕ) (count k : ℕ) : Type 0 where
   pub open-node : k < count
-  pub least : nodeAt work (length ws) k ≡ leastOf ws (nodes count (length ws) work)
+  pub least : nodeAt work (length ts) k ≡ leastOf (weights ts) (nodes count (length ts) work)
 
 -- the least node taken off
-pub record Taken (ws : List ℕ) (count : ℕ) (work work′ node : List ℕ) : Type 0 where
-  pub sized : length (take (length ws) node) ≡ length ws
-  pub least : take (length ws) node ≡ leastOf ws (nodes count (length ws) work)
-  pub rest : SameNodes (nodes (count - 1) (length ws) work′) (without (leastOf ws (nodes count (length ws) work)) (nodes count (length ws) work))
+pub record Taken (ts : List Task) (count : ℕ) (work work′ node : List ℕ) : Type 0 where
+  pub sized : length (take (length ts) node) ≡ length ts
+  pub least : take (length ts) node ≡ leastOf (weights ts) (nodes count (length ts) work)
+  pub rest : let ps = nodes count (length ts) work in
+      SameNodes (nodes (count - 1) (length ts) work′) (without (leastOf (weights ts) ps) ps)
 
 -- a node and an assignment that dominates it
 pub record Above (node u : List ℕ) : Type 0 where
@@ -79,69 +81,66 @@ pub record DroppedBy (q node u : List ℕ) (d : Drops) : Type 0 where
   pub marks : (i : ℕ) → i < length node → dominates (child node u i) q ≡ drops d i
   pub in-range : inRange d (length node)
 
--- a node to branch on, beside count open nodes
-pub record Branches (work : List ℕ) (count : ℕ) (node u : List ℕ) : Type 0 where
+-- a node to expand, beside count open nodes
+pub record Expands (work : List ℕ) (count : ℕ) (node u : List ℕ) : Type 0 where
   pub few : length node ≤ maxTasks
   pub fits : count * length node ≤ length work
   pub above : Above node u
 
 -- which children dominate an open node
 pub record Dropped (work : List ℕ) (count : ℕ) (node u : List ℕ) (marks : List Bool) : Type 0 where
-  pub marked : (i : ℕ) → i < length node → getD marks i false ≡ dominatesSome (child node u i) (nodes count (length node) work)
+  pub marked : (i : ℕ) → i < length node
+      → getD marks i false ≡ dominatesSome (child node u i) (nodes count (length node) work)
 
 -- a work space with room for the open nodes and more
 pub record HasRoom (work : List ℕ) (count room : ℕ) (node : List ℕ) : Type 0 where
   pub within : count ≤ room
   pub fits : room * length node ≤ length work
 
--- the children that are kept beside count open nodes
-abbrev pub keptChildren : List ℕ → List ℕ → List ℕ → ℕ → List ℕ → List (List ℕ)
-keptChildren maxs node u count work = kept (childrenFrom (length node) maxs node u 0) (nodes count (length node) work)
+-- the open nodes with the children that are kept
+abbrev pub expanded : List ℕ → List ℕ → List ℕ → ℕ → List ℕ → List (List ℕ)
+expanded maxs node u count work =
+    let ps = nodes count (length node) work in ps ++ kept (childrenFrom (length node) maxs node u 0) ps
 
 -- "If listed corners and remaining children together exceed the space, stop .. Else list them."
-abbrev pub openAfter : List ℕ → List ℕ → List ℕ → ℕ → List ℕ → ℕ
-openAfter maxs node u count work = count + length (keptChildren maxs node u count work)
+pub record Lists (maxs node u : List ℕ) (count room : ℕ) (work work′ : List ℕ) (r : Step) : Type 0 where
+  pub step : let m = length (expanded maxs node u count work) in r ≡ cond (ltb room m) Full (Listed m)
+  pub listed : let ps = expanded maxs node u count work in
+      ltb room (length ps) ≡ false → nodes (length ps) (length node) work′ ≡ ps
 
-pub record Lists (maxs node u : List ℕ) (count room : ℕ) (work work′ : List ℕ) (r : Listing) : Type 0 where
-  pub outcome : r ≡ cond (ltb room (openAfter maxs node u count work)) Full (Listed (openAfter maxs node u count work))
-  pub listed : ltb room (openAfter maxs node u count work) ≡ false → nodes (openAfter maxs node u count work) (length node) work′ ≡ nodes count (length node) work ++ keptChildren maxs node u count work
+-- what a round's step says, by a rule and its state, of the open nodes ps and of those that there are then, so many
+abbrev pub Goes : (R : Rule) → R .State → ℕ → List (List ℕ) → (ℕ → List (List ℕ)) → Step → Type 0
+Goes R s room ps then Answered = R .answers s (least R ps) ≡ true
+Goes R s room ps then (Listed count) =
+    (R .answers s (least R ps) ≡ false) × ((count ≤ room) × SameNodes (then count) (next R s ps))
+Goes R s room ps then Full = (R .answers s (least R ps) ≡ false) × (room < length (next R s ps))
 
--- columns of tasks within their limits
-pub record ColumnsOf (ts : List Task) (wcet caps mins maxs ws : List ℕ) : Type 0 where
-  pub sane : AllSane ts
+-- a round by a rule, over count open nodes of n periods
+pub record Rounds (R : Rule) (s : R .State) (n count room : ℕ) (work work′ : List ℕ) (r : Round) : Type 0 where
+  pub node : take n (r .node) ≡ least R (nodes count n work)
+  pub cost : r .cost ≡ cost (R .weights) (least R (nodes count n work))
+  pub goes : Goes R s room (nodes count n work) (λ m. nodes m n work′) (r .step)
+
+-- what a round asks: open nodes with room for more, and the least of them within its limits and bounds
+pub record Ready (ts : List Task) (work : List ℕ) (count room : ℕ) : Type 0 where
+  pub holds : Holds ts work count
+  pub within : count ≤ room
+  pub fits : room * length ts ≤ length work
+  pub bounded : withinBounds ts (leastOf (weights ts) (nodes count (length ts) work)) ≡ true
+
+-- tasks and the two spaces of a call that passed its own rules; with something feasible, too
+pub record Concludes (ts : List Task) (o w : List ℕ) : Type 0 where
+  pub valid : AllValid ts
   pub some : 1 ≤ length ts
   pub few : length ts ≤ maxTasks
-  pub wcet-is : wcet ≡ wcets ts
-  pub caps-is : caps ≡ deadlineCaps ts
-  pub mins-is : mins ≡ periodMins ts
-  pub maxs-is : maxs ≡ periodMaxs ts
-  pub weights-is : ws ≡ weights ts
+  pub sized : length o ≡ length ts
+  pub room : length ts ≤ length w
 
-pub record Columns (wcet caps mins maxs ws : List ℕ) : Type 0 where
-  pub tasks : List Task
-  pub are : ColumnsOf tasks wcet caps mins maxs ws
+pub record Searchable (ts : List Task) (o w : List ℕ) : Type 0 where
+  pub given : Concludes ts o w
+  pub top : schedulable ts (periodMaxs ts) ≡ true
 
--- what the search asks of its columns: the longest periods are schedulable
-pub record Searchable (wcet caps mins maxs ws : List ℕ) : Type 0 where
-  pub tasks : List Task
-  pub are : ColumnsOf tasks wcet caps mins maxs ws
-  pub top : schedulable (timing wcet caps) maxs ≡ true
-
--- what it comes to: the end of the search, and the periods' space o before and after
-pub record Ends (ws : List ℕ) (e : End (Unit {0})) (o o′ : List ℕ) (r : Answer) : Type 0 where
-  pub number : r .number ≡ e .number
-  pub place : r .place ≡ 0
-  pub price : r .cost ≡ cond (eqb (e .number) 0) (cost ws (e .periods)) 0
-  pub rounds : r .rounds ≡ e .rounds
-  pub bound : r .bound ≡ e .bound
-  pub periods : o′ ≡ cond (eqb (e .number) 0) (e .periods) o
-
--- an outcome answered, and what becomes of the two spaces
-pub record Answers (x : Outcome) (o o′ w w′ : List ℕ) (r : Answer) : Type 0 where
-  pub number : r .number ≡ x .number
-  pub place : r .place ≡ x .place
-  pub price : r .cost ≡ x .price
-  pub rounds : r .rounds ≡ x .rounds
-  pub bound : r .bound ≡ x .bound
-  pub periods : o′ ≡ cond (eqb (x .number) 0) (x .periods) o
-  pub work : w′ ≡ cond (isSearched (x .number)) (replicate (length w) 0) w
+-- the outcome of a search: its answer, and the periods' space o before and after
+pub record Ends (x : Outcome) (o o′ : List ℕ) (r : Answer) : Type 0 where
+  pub answer : r ≡ x .answer
+  pub periods : o′ ≡ written x o

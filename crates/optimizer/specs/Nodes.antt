@@ -3,7 +3,7 @@ use mathlib.Core.Path.{_≡_}
 use mathlib.Core.Bool.{Bool, false, _||_, cond}
 use mathlib.Core.List.{List, [], _∷_}
 use Prim.Native.Nat.{ℕ, _+_}
-use Rattle.plan.specs.Names.{same}
+use Rattle.plan.specs.Lists.{same}
 use Rattle.response.specs.Assignments.{less, dominates}
 
 -- "least" in the order of assignments

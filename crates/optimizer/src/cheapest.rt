@@ -1,120 +1,101 @@
 ghost use mathlib.Core.Path.{_≡_};
-ghost use mathlib.Core.List.{List};
-ghost use Prim.Native.Nat.{_≤_, _/_};
-ghost use lib.Dec.{leb};
+ghost use Prim.Native.Nat.{_≤_};
 ghost use lib.ListN.{length};
-ghost use Rattle.plan.specs.declared.record.Task as T;
-ghost use Rattle.plan.specs.Faults.{faultIf, firstFrom};
+ghost use Rattle.plan.specs.Faults.{firstFrom};
 ghost use Rattle.plan.specs.Tasks.{maxTasks};
-ghost use Rattle.response.specs.Analysis.{timing};
-ghost use Rattle.optimizer.specs.Inner.{ColumnsOf, Columns, Answers};
-ghost use Rattle.optimizer.specs.Promises.{aloneFault, concluded, Plans};
+ghost use Rattle.plan.specs.Table.{tasksIn};
+ghost use Rattle.plan.specs.Files.{fileFault, tasksOf};
+ghost use Rattle.plan.specs.Promises.{planTasks, Usable};
+ghost use Rattle.optimizer.specs.Inner.{Concludes};
+ghost use Rattle.optimizer.specs.Promises.{aloneFault, roomOf, concluded, Answers, Plans};
+use super::answer::Answer;
+use super::bounds::longest_periods;
 use super::nodes::clear;
 use super::search::search;
-use response::deadline_of;
-use response::first_missed;
+use plan::Fault;
+use plan::Loaded;
+use plan::Plan;
+use response::deadline_at;
+use response::first_unschedulable;
+use response::own_demand;
 
-// CHEAPEST's answer: the number with its place, the cost of an answer, the rounds, and the bound of a stop.
-pub struct Answer {
-    pub number: u32,
-    pub place: u32,
-    pub cost: u64,
-    pub rounds: u64,
-    pub bound: u64,
-}
-
-fn refused(number: u32, place: u32) -> Answer
-    ensures { λ r. ⌜ r ≡ record { number = number; place = place; cost = 0; rounds = 0; bound = 0 } ⌝ }
+// Rule 31: the first task whose own demand exceeds its deadline at its longest period.
+fn alone_fault(tasks: &[u32]) -> Fault
+    requires { ⌜ length (tasksIn (now tasks)) ≤ maxTasks ⌝ }
+    ensures { λ r. ⌜ (let ts = tasksIn (now (tasks .entry)) in r ≡ firstFrom (aloneFault ts) (length ts) 0) ⌝ }
 {
-    Answer {
-        number,
-        place,
-        cost: 0,
-        rounds: 0,
-        bound: 0,
-    }
-}
-
-// Rule 31: the first task whose wcet exceeds its deadline at the longest period, counted from 1, or 0.
-fn infeasible_alone(wcet: &[u32], deadline_cap: &[u32], period_max: &[u32]) -> u32
-    requires { ⌜ (length (now «deadline_cap») ≡ length (now wcet)) × ((length (now «period_max») ≡ length (now wcet)) × (length (now wcet) ≤ maxTasks)) ⌝ }
-    ensures { λ r. ⌜ firstFrom (aloneFault (timing (now (wcet .entry)) (now («deadline_cap» .entry))) (now («period_max» .entry))) (length (now (wcet .entry))) 0 ≡ faultIf (leb 1 r) 31 r ⌝ }
-{
+    let n = plan::task_count(tasks);
     let mut i: usize = 0;
-    while i < wcet.len() {
-        if deadline_of(period_max[i], deadline_cap[i]) < wcet[i] {
-            return (i + 1) as u32;
+    while i < n {
+        if deadline_at(tasks, i, plan::period_max(tasks, i)) < own_demand(tasks, i) {
+            return Fault {
+                number: 31,
+                place: (i + 1) as u32,
+            };
         }
         i += 1;
     }
-    0
+    Fault::none()
 }
 
 // Rules 31 and 32, then the search, of which the work space keeps no trace.
-fn conclude(
-    wcet: &[u32],
-    deadline_cap: &[u32],
-    period_min: &[u32],
-    period_max: &[u32],
-    weights: &[u32],
-    budget: u64,
-    periods: &mut [u32],
-    work: &mut [u32],
-) -> Answer
-    requires { ⌜ Columns (now wcet) (now «deadline_cap») (now «period_min») (now «period_max») (now weights) × ((length (now periods) ≡ length (now weights)) × (length (now weights) ≤ length (now work))) ⌝ }
-    ensures { λ r. ⌜ ((ts : List T.Task) → ColumnsOf ts (now (wcet .entry)) (now («deadline_cap» .entry)) (now («period_min» .entry)) (now («period_max» .entry)) (now (weights .entry)) → Answers (concluded ts budget (length (now (work .entry)) / length (now (weights .entry)))) (now (periods .entry)) (now (periods .exit)) (now (work .entry)) (now (work .exit)) r) ⌝ }
+fn conclude(tasks: &[u32], budget: u64, periods: &mut [u32], work: &mut [u32]) -> Answer
+    requires { ⌜ Concludes (tasksIn (now tasks)) (now periods) (now work) ⌝ }
+    ensures { λ r. ⌜ (let ts = tasksIn (now (tasks .entry)) in
+        Answers (concluded ts budget (roomOf ts (length (now (work .entry)))))
+        (now (periods .entry)) (now (periods .exit)) (now (work .entry)) (now (work .exit)) r) ⌝ }
 {
-    let alone = infeasible_alone(wcet, deadline_cap, period_max);
-    if alone != 0 {
-        return refused(31, alone);
+    let alone = alone_fault(tasks);
+    if alone.number != 0 {
+        return Answer::refused(alone);
     }
-    let missed = first_missed(wcet, deadline_cap, period_max);
+    let n = periods.len();
+    let longest = longest_periods(tasks);
+    let missed = first_unschedulable(tasks, &longest[..n]);
     if missed != 0 {
-        return refused(32, missed);
+        return Answer::refused(Fault {
+            number: 32,
+            place: missed,
+        });
     }
-    let answer = search(
-        wcet,
-        deadline_cap,
-        period_min,
-        period_max,
-        weights,
-        budget,
-        periods,
-        work,
-    );
+    let answer = search(tasks, budget, periods, work);
     clear(work);
     answer
 }
 
-// CHEAPEST: the cheapest schedulable periods within the bounds, written where there are any; the work space is left cleared.
-pub fn cheapest_periods(file: &[u8], budget: u64, periods: &mut [u32], work: &mut [u32]) -> Answer
-    ensures { λ r. ⌜ Plans (now (file .entry)) budget (now (periods .entry)) (now (periods .exit)) (now (work .entry)) (now (work .exit)) r ⌝ }
+// CHEAPEST of a plan that was loaded.
+pub fn cheapest_of(loaded: Loaded, budget: u64, periods: &mut [u32], work: &mut [u32]) -> Answer
+    requires { ⌜ Usable loaded ⌝ }
+    ensures { λ r. ⌜ Plans (loaded .fault) (planTasks (loaded .plan)) budget
+        (now (periods .entry)) (now (periods .exit)) (now (work .entry)) (now (work .exit)) r ⌝ }
 {
-    let loaded = plan::load_plan(file);
-    if loaded.number != 0 {
-        return refused(loaded.number, loaded.place);
+    let fault = loaded.fault;
+    if fault.number != 0 {
+        return Answer::refused(fault);
     }
-    let plan = loaded.plan;
-    let n = plan.tasks;
+    let n = loaded.plan.tasks;
     if periods.len() != n {
-        return refused(22, 0);
+        return Answer::refused(Fault {
+            number: 22,
+            place: 0,
+        });
     }
     if work.len() < n {
-        return refused(24, 0);
+        return Answer::refused(Fault {
+            number: 24,
+            place: 0,
+        });
     }
-    let wcet = plan.wcet;
-    let deadline_cap = plan.deadline_cap;
-    let period_min = plan.period_min;
-    let period_max = plan.period_max;
-    let weight = plan.weight;
-    conclude(
-        &wcet[..n],
-        &deadline_cap[..n],
-        &period_min[..n],
-        &period_max[..n],
-        &weight[..n],
-        budget,
-        periods,
-        work,
-    )
+    let table = loaded.plan.table;
+    let size = Plan::ROW_FIELDS * n;
+    conclude(&table[..size], budget, periods, work)
+}
+
+// CHEAPEST: the cheapest schedulable periods within the bounds, written where there are any; the work space is left
+// cleared.
+pub fn cheapest_periods(file: &[u8], budget: u64, periods: &mut [u32], work: &mut [u32]) -> Answer
+    ensures { λ r. ⌜ Plans (fileFault (now (file .entry))) (tasksOf (now (file .entry))) budget
+        (now (periods .entry)) (now (periods .exit)) (now (work .entry)) (now (work .exit)) r ⌝ }
+{
+    cheapest_of(plan::load_plan(file), budget, periods, work)
 }

@@ -3,9 +3,11 @@ use plan::Plan;
 ghost use mathlib.Core.Path.{_≡_};
 ghost use Prim.Native.Nat.{_+_, _-_, _*_, _≤_};
 ghost use lib.ListN.{length, take, replicate};
-ghost use Rattle.plan.specs.Tasks.{maxTasks};
-ghost use Rattle.optimizer.specs.Nodes.{without, SameNodes};
-ghost use Rattle.optimizer.specs.Inner.{nodeAt, nodes, put, Removable, Open, IsLeast};
+ghost use Rattle.plan.specs.Tasks.{maxTasks, weights};
+ghost use Rattle.plan.specs.Table.{tasksIn};
+ghost use Rattle.response.specs.Assignments.{cost};
+ghost use Rattle.optimizer.specs.Nodes.{leastOf, without, SameNodes};
+ghost use Rattle.optimizer.specs.Inner.{nodeAt, nodes, put, Removable, Holds, IsLeast, Taken};
 
 // The periods of node k, in their stretch.
 pub fn node_at<'a>(work: &'a [u32], n: usize, k: usize) -> &'a [u32]
@@ -46,7 +48,7 @@ pub fn write_node(stretch: &mut [u32], node: &[u32])
 // A node becomes node k.
 pub fn place(work: &mut [u32], k: usize, node: &[u32])
     requires { ⌜ k * length (now node) + length (now node) ≤ length (now work) ⌝ }
-    ensures { λ _. ⌜ now (work .exit) ≡ put (now (work .entry)) (k * length (now (node .entry))) (now (node .entry)) ⌝ }
+    ensures { λ _. ⌜ (let p = now (node .entry) in now (work .exit) ≡ put (now (work .entry)) (k * length p) p) ⌝ }
 {
     let at = k * node.len();
     let end = at + node.len();
@@ -56,7 +58,8 @@ pub fn place(work: &mut [u32], k: usize, node: &[u32])
 // Takes node k off: the last one moves into its stretch.
 pub fn remove(work: &mut [u32], n: usize, count: usize, k: usize)
     requires { ⌜ Removable (now work) n count k ⌝ }
-    ensures { λ _. ⌜ SameNodes (nodes (count - 1) n (now (work .exit))) (without (nodeAt (now (work .entry)) n k) (nodes count n (now (work .entry)))) ⌝ }
+    ensures { λ _. ⌜ (let w = now (work .entry) in
+        SameNodes (nodes (count - 1) n (now (work .exit))) (without (nodeAt w n k) (nodes count n w))) ⌝ }
 {
     let last = read_node(node_at(work, n, count - 1));
     place(work, k, &last[..n]);
@@ -74,17 +77,17 @@ pub fn clear(work: &mut [u32])
 }
 
 // The least of the open nodes.
-pub fn least(work: &[u32], weights: &[u32], count: usize) -> usize
-    requires { ⌜ (1 ≤ count) × Open (now weights) (now work) count ⌝ }
-    ensures { λ r. ⌜ IsLeast (now (weights .entry)) (now (work .entry)) count r ⌝ }
+pub fn least(work: &[u32], tasks: &[u32], count: usize) -> usize
+    requires { ⌜ Holds (tasksIn (now tasks)) (now work) count ⌝ }
+    ensures { λ r. ⌜ IsLeast (tasksIn (now (tasks .entry))) (now (work .entry)) count r ⌝ }
 {
-    let n = weights.len();
+    let n = plan::task_count(tasks);
     let mut best = 0;
-    let mut best_cost = order::cost_of(weights, node_at(work, n, 0));
+    let mut best_cost = order::cost_of(tasks, node_at(work, n, 0));
     let mut k = 1;
     while k < count {
         let node = node_at(work, n, k);
-        let cost = order::cost_of(weights, node);
+        let cost = order::cost_of(tasks, node);
         if order::is_less(cost, best_cost, node, node_at(work, n, best)) {
             best = k;
             best_cost = cost;
@@ -92,4 +95,27 @@ pub fn least(work: &[u32], weights: &[u32], count: usize) -> usize
         k += 1;
     }
     best
+}
+
+// Takes the least node off.
+pub fn take_least(work: &mut [u32], tasks: &[u32], count: usize) -> [u32; Plan::MAX_TASKS]
+    requires { ⌜ Holds (tasksIn (now tasks)) (now work) count ⌝ }
+    ensures { λ r. ⌜ Taken (tasksIn (now (tasks .entry))) count (now (work .entry)) (now (work .exit)) r ⌝ }
+{
+    let n = plan::task_count(tasks);
+    let k = least(work, tasks, count);
+    let node = read_node(node_at(work, n, k));
+    remove(work, n, count, k);
+    node
+}
+
+// The cost of the least open node.
+pub fn bound_of(work: &[u32], tasks: &[u32], count: usize) -> u64
+    requires { ⌜ Holds (tasksIn (now tasks)) (now work) count ⌝ }
+    ensures { λ r. ⌜ (let ts = tasksIn (now (tasks .entry)) in
+        r ≡ cost (weights ts) (leastOf (weights ts) (nodes count (length ts) (now (work .entry))))) ⌝ }
+{
+    let n = plan::task_count(tasks);
+    let k = least(work, tasks, count);
+    order::cost_of(tasks, node_at(work, n, k))
 }

@@ -1,76 +1,145 @@
--- Tasks decoded one by one: what a row's answer and a name say of the task's rules, and the plan so far.
+-- Tasks decoded one by one: what a row's answer and a name say of the task's rules, and the table so far.
 use mathlib.Core.Path.{_≡_, refl, sym, ap, _∙_}
 use mathlib.Core.Bool.{true, false}
 use mathlib.Core.Logic.{inl, inr}
-use mathlib.Core.List.{List, [], _∷_, _++_}
-use Prim.Native.Nat.{ℕ, zero, suc, _+_, _-_, _<_}
+use mathlib.Core.List.{List, [], _++_, append-assoc}
+use Prim.Native.Nat.{ℕ, _+_, _-_, _*_, _≤_, _<_}
 use native.Mathlib.Omega.{arith}
-use lib.Dec.{ltb}
-use lib.ListN.{length}
-use borrow.Author.Tests.{ne-eqb}
+use native.Mathlib.Numerals.{add-one}
+use native.Mathlib.Nat.{mul-le-mul-left}
+use lib.ListN.{length, take, replicate, length-append, length-replicate}
+use lib.Seq.{length-take-le, take-at}
+use borrow.Author.Tests.{ne-eqb, eqb-true, eqb-false}
+use borrow.Rule.Slice.PartMut.{postOf, putMid, mid-len, same-len-mid}
+use Rattle.plan.specs.declared.faults.Fault.{Fault}
 use Rattle.plan.specs.declared.record.Task.{Task}
+use Rattle.plan.specs.declared.record.Plan.{Plan}
+use Rattle.plan.specs.declared.layout.Areas.{Areas}
 use Rattle.plan.specs.declared.rows.Row.the-variants.{Decoded, Refused}
 use Rattle.plan.specs.declared.reader.Loaded.{Loaded}
-use Rattle.plan.specs.Faults.{fault, none, firstFrom}
-use Rattle.plan.specs.Tasks.{withinLimits}
-use Rattle.plan.specs.Layout.{taskCount}
+use Rattle.plan.specs.Lists.{tabulate}
+use Rattle.plan.specs.Faults.{fault, none, passed, orElse, firstFrom}
+use Rattle.plan.specs.Tasks.{maxTasks}
+use Rattle.plan.specs.Table.{rowFields, rowOf, tasksIn}
+use Rattle.plan.specs.Layout.{taskCount, rowsAt, rowWidth, namesAt}
 use Rattle.plan.specs.Names.{nameField, nameOk}
-use Rattle.plan.specs.Files.{taskOf, rowFault, taskFault, tasksFault, tasksFrom, tasksOf}
-use Rattle.plan.specs.Inner.{decoded, numberOf, Refuses, Decodes}
-use Rattle.plan.specs.Promises.{Holds}
+use Rattle.plan.specs.Files.{taskOf, rowFault, taskFault, tasksFault}
+use Rattle.plan.specs.Inner.{AreasOf, decoded, faultOfRow, Refuses, Decodes}
+use Rattle.plan.specs.Promises.{planTasks}
 use Rattle.plan.proofs.Tests.{bool}
-use Rattle.plan.proofs.Rules.{run-here, run-next, run-end}
+use Rattle.plan.proofs.Lists.{tabulate-more}
+use Rattle.plan.proofs.Tables.{tasks-append}
+use Rattle.plan.proofs.Rules.{or-here, or-next, run-here, run-next, run-end}
+
+-- the fault of a broken rule stands before those of later rules
+pub broken-first : {f g : Fault} → (f .number ≡ 0 → ⊥) → f ≡ g → (h : Fault) → f ≡ orElse g h
+broken-first {g = g} b e h = e ∙ sym (or-here g h (λ z. b (ap (λ f. f .number) e ∙ z)))
 
 -- a row's answer
 module _ (t : Task) (i : ℕ) where
-  pub row-number : (n : ℕ) → Refused n ≡ decoded t → (n ≡ 0 → ⊥) × (rowFault t i ≡ fault n (suc i))
-  row-number n e = elim (bool (withinLimits t)) [
-    | inr a ↦ let z : n ≡ 8 = ap numberOf (rw a at e) in (λ q. omega arith, rw (a, z))
-    | inl a ↦ elim (bool (ltb (t .«period_max») (t .«period_min»))) [
-      | inl b ↦ let z : n ≡ 9 = ap numberOf (rw (a, b) at e) in (λ q. omega arith, rw (a, b, z))
-      | inr b ↦ let z : _≡_ {A = ℕ} 0 1 = cc (rw (a, b) at e) in absurd (omega arith)
-    ]
+  row-refused : (f : Fault) → Refused f ≡ decoded t i → (f .number ≡ 0 → ⊥) × (f ≡ rowFault t i)
+  row-refused f e = elim (bool (passed (rowFault t i))) [
+    | inl b ↦ let z : _≡_ {A = ℕ} 0 1 = cc (rw b at e) in absurd (omega arith)
+    | inr b ↦ let z : f ≡ rowFault t i = ap faultOfRow (rw b at e) in
+        (λ q. eqb-false (rowFault t i .number) 0 b (sym (ap (λ g. g .number) z) ∙ q), z)
   ]
 
-  pub row-good : (u : Task) → Decoded u ≡ decoded t → (u ≡ t) × (rowFault t i ≡ none)
-  row-good u e = elim (bool (withinLimits t)) [
-    | inr a ↦ let z : _≡_ {A = ℕ} 0 1 = cc (rw a at e) in absurd (omega arith)
-    | inl a ↦ elim (bool (ltb (t .«period_max») (t .«period_min»))) [
-      | inl b ↦ let z : _≡_ {A = ℕ} 0 1 = cc (rw (a, b) at e) in absurd (omega arith)
-      | inr b ↦ (cc (rw (a, b) at e), rw (a, b))
-    ]
+  row-decoded : (u : Task) → Decoded u ≡ decoded t i → (u ≡ t) × (rowFault t i .number ≡ 0)
+  row-decoded u e = elim (bool (passed (rowFault t i))) [
+    | inl b ↦ (cc (rw b at e), eqb-true (rowFault t i .number) 0 b)
+    | inr b ↦ let z : _≡_ {A = ℕ} 0 1 = cc (rw b at e) in absurd (omega arith)
   ]
 
--- one task more
-tasks-more : (s : List ℕ) (n i : ℕ) → tasksFrom s (suc n) i ≡ tasksFrom s n i ++ (taskOf s (i + n) ∷ [])
-tasks-more s zero i = let e : i + 0 ≡ i = omega arith in rw e
-tasks-more s (suc n) i = let e : i + suc n ≡ suc i + n = omega arith in rw e (ap (λ (l : List Task). taskOf s i ∷ l) (tasks-more s n (suc i)))
+-- its place in the file
+module _ {s : List ℕ} {a : Areas} (w : AreasOf s a) (i : ℕ) where
+  pub row-start : a .rows + a .«row_width» * i ≡ rowsAt s + rowWidth s * i
+  row-start = rw (w .rows, w .row-width)
 
-pub task-more : (s : List ℕ) (i : ℕ) (u : Task) → u ≡ taskOf s i → tasksFrom s i 0 ++ (u ∷ []) ≡ tasksFrom s (i + 1) 0
-task-more s i u e = let a : i + 1 ≡ suc i = omega arith in let b : 0 + i ≡ i = omega arith in rw (e, a) (sym (rw b at (tasks-more s i 0)))
+  pub row-inside : i < taskCount s → a .rows + a .«row_width» * i + rowWidth s ≤ length s
+  row-inside l = rw row-start (omega (arith, w .rows-to, mul-le-mul-left (rowWidth s) l))
 
-pub tasks-count : (s : List ℕ) (n i : ℕ) → length (tasksFrom s n i) ≡ n
-tasks-count s zero i = refl
-tasks-count s (suc n) i = ap suc (tasks-count s n (suc i))
+-- a plan of no task
+pub no-tasks : (p : Plan) → p .tasks ≡ 0 → planTasks p ≡ []
+unfolding tasksIn
+no-tasks p e = rw e
 
--- the reading ends with a broken rule of task i, or after the last task
-module _ (s : List ℕ) (i : ℕ) (r : Loaded) (so-far : tasksFault s ≡ firstFrom (taskFault s) (taskCount s - i) i) where
-  pub broken : (n : ℕ) → i < taskCount s → taskFault s i ≡ fault n (suc i) → (n ≡ 0 → ⊥) → Refuses n (i + 1) r → Decodes s r
-  broken n l e h f =
-      let a : suc i ≡ i + 1 = omega arith in
-      let q : tasksFault s ≡ fault n (i + 1) = so-far ∙ run-here (taskFault s) (taskCount s) i l (λ z. h (sym (ap (λ g. g .number) e) ∙ z)) ∙ e ∙ ap (fault n) a in
-      record { number = f .numbered ∙ sym (ap (λ g. g .number) q); place = f .placed ∙ sym (ap (λ g. g .place) q); plan = rw (q, ne-eqb n 0 h) (f .empty) }
+-- the first i tasks passed, and the table holds them
+pub record Decoding (s table : List ℕ) (i : ℕ) : Type 0 where
+  pub within : i ≤ taskCount s
+  pub room : length table ≡ rowFields * maxTasks
+  pub so-far : tasksFault s ≡ firstFrom (taskFault s) (taskCount s - i) i
+  pub rows : tasksIn (take (rowFields * i) table) ≡ tabulate (taskOf s) i 0
 
-  pub row-broken : (n : ℕ) → i < taskCount s → Refused n ≡ decoded (taskOf s i) → Refuses n (i + 1) r → Decodes s r
-  row-broken n l e f = let k = row-number (taskOf s i) i n e in broken n l (rw (k .1, ne-eqb n 0 (k .0))) (k .0) f
+pub decoding-begins : (s : List ℕ) → Decoding s (replicate (rowFields * maxTasks) 0) 0
+unfolding tasksIn
+decoding-begins s =
+    let e : taskCount s - 0 ≡ taskCount s = omega arith in
+    record { within = omega arith; room = length-replicate {A = ℕ} (rowFields * maxTasks) 0; so-far = rw e; rows = refl }
 
-  pub name-broken : (u : Task) → i < taskCount s → Decoded u ≡ decoded (taskOf s i) → nameOk (nameField s i) ≡ false → Refuses 10 (i + 1) r → Decodes s r
-  name-broken u l e h f = broken 10 l (rw (row-good (taskOf s i) i u e .1, h)) (λ z. omega arith) f
+-- its row is written behind the rows so far
+row-written :
+    (s table : List ℕ) (i : ℕ) → rowFields * i + rowFields ≤ length table
+    → tasksIn (take (rowFields * i) table) ≡ tabulate (taskOf s) i 0
+    → tasksIn (take (rowFields * (i + 1)) (putMid (rowFields * i) rowFields table (rowOf (taskOf s i)))) ≡ tabulate (taskOf s) (i + 1) 0
+row-written s table i h t =
+    let front = take (rowFields * i) table in
+    let row = rowOf (taskOf s i) in
+    let k : length front ≡ rowFields * i = length-take-le (rowFields * i) table (omega arith) in
+    let l : length (front ++ row) ≡ rowFields * (i + 1) = simp length-append (omega arith) in
+    let z : 0 + i ≡ i = omega arith in
+    rw (← append-assoc front row (postOf (rowFields * i) rowFields table), take-at (front ++ row) _ (rowFields * (i + 1)) l)
+    (tasks-append front (taskOf s i) i k ∙ rw (t, add-one, tabulate-more (taskOf s) i 0, z))
 
-  pub all-good : taskCount s ≡ i → r .number ≡ 0 → r .place ≡ 0 → Holds (r .plan) (tasksFrom s i 0) → Decodes s r
-  unfolding tasksOf
-  all-good l n p h = let q : tasksFault s ≡ none = so-far ∙ run-end (taskFault s) (taskCount s) i (omega arith) in
-      record { number = n ∙ sym (ap (λ g. g .number) q); place = p ∙ sym (ap (λ g. g .place) q); plan = rw (q, l) h }
+module _ (s table : List ℕ) (i : ℕ) (d : Decoding s table i) where
+  -- the reading ends with a broken rule of task i, or after the last task
+  module _ (r : Loaded) where
+    broken : {f : Fault} → (f .number ≡ 0 → ⊥) → i < taskCount s → f ≡ taskFault s i → Refuses f r → Decodes s r
+    broken {f} h l e x =
+        let here = run-here (taskFault s) (taskCount s) i l (λ z. h (ap (λ g. g .number) e ∙ z)) in
+        let q : f ≡ tasksFault s = e ∙ sym (d .so-far ∙ here) in
+        let n : passed (tasksFault s) ≡ false = rw (← q, ne-eqb (f .number) 0 h) in
+        record {
+          fault = x .fault ∙ q;
+          count = rw n (x .none);
+          tasks = rw n (no-tasks (r .plan) (x .none));
+          names = λ z. absurd (h (sym (ap (λ g. g .number) (x .fault)) ∙ z));
+        }
 
-pub good-next : (s : List ℕ) (i : ℕ) (u : Task) → i < taskCount s → Decoded u ≡ decoded (taskOf s i) → nameOk (nameField s i) ≡ true → firstFrom (taskFault s) (taskCount s - i) i ≡ firstFrom (taskFault s) (taskCount s - (i + 1)) (i + 1)
-good-next s i u l e h = run-next (taskFault s) (taskCount s) i l (rw (row-good (taskOf s i) i u e .1, h))
+    pub row-broken : (f : Fault) → i < taskCount s → Refused f ≡ decoded (taskOf s i) i → Refuses f r → Decodes s r
+    row-broken f l e x =
+        let k = row-refused (taskOf s i) i f e in
+        broken (k .0) l (broken-first (k .0) (k .1) _) x
+
+    pub name-broken :
+        (u : Task) → i < taskCount s → Decoded u ≡ decoded (taskOf s i) i → nameOk (nameField s i) ≡ false
+        → Refuses (fault 10 (i + 1)) r → Decodes s r
+    name-broken u l e h x =
+        let p : taskFault s i ≡ fault 10 (i + 1) =
+        or-next (rowFault (taskOf s i) i) _ (row-decoded (taskOf s i) i u e .1) ∙ rw (h, add-one) in
+        broken (λ z. omega arith) l (sym p) x
+
+    pub all-decoded :
+        (n : ℕ) → n ≡ taskCount s → n ≤ i → r .fault ≡ none → r .plan ≡ record { tasks = n; table = table } → r .names ≡ namesAt s
+        → Decodes s r
+    all-decoded n e l f p m =
+        let k : n ≡ i = omega (arith, d .within) in
+        let q : tasksFault s ≡ none = d .so-far ∙ run-end (taskFault s) (taskCount s) i (omega arith) in
+        record { fault = f ∙ sym q; count = rw (q, p) e; tasks = rw (q, p, ← e, k) (d .rows); names = λ z. m }
+
+  -- or task i passes, and its row is written into its stretch of the table
+  pub decoding-next :
+      (u : Task) (row : List ℕ) → taskCount s ≤ maxTasks → i < taskCount s → Decoded u ≡ decoded (taskOf s i) i
+      → nameOk (nameField s i) ≡ true → row ≡ rowOf u
+      → Decoding s (putMid (rowFields * i) (rowFields * i + rowFields - rowFields * i) table row) (i + 1)
+  decoding-next u row few l e h r =
+      let a = row-decoded (taskOf s i) i u e in
+      let p : taskFault s i ≡ none = or-next (rowFault (taskOf s i) i) _ (a .1) ∙ rw h in
+      let w : rowFields * i + rowFields - rowFields * i ≡ rowFields = omega arith in
+      let k : rowFields * i + rowFields ≤ length table = omega (arith, d .room) in
+      let m = mid-len (rowFields * i) (rowFields * i + rowFields) table k in
+      record {
+        within = omega arith;
+        room = same-len-mid (rowFields * i) (rowFields * i + rowFields - rowFields * i) table row (rw r (sym (m ∙ w))) ∙ d .room;
+        so-far = d .so-far ∙ run-next (taskFault s) (taskCount s) i l (ap (λ g. g .number) p);
+        rows = rw (w, r, a .0) (row-written s table i k (d .rows));
+      }

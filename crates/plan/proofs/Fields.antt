@@ -9,24 +9,14 @@ use lib.Dec.{eqb, leb}
 use lib.ListN.{length, getD, take, drop}
 use lib.Seq.{drop-cons, drop-drop, take-nil}
 use borrow.Author.Tests.{ne-eqb, le-leb, leb-true}
-use Rattle.plan.specs.Names.{isNameByte, allZero, nameThenZeros, nameOk, withoutZeros, nameField, same, namedEarlier}
+use Rattle.plan.specs.Lists.{same}
+use Rattle.plan.specs.Names.{isNameByte, allZero, nameThenZeros, nameOk, withoutZeros, nameField, namedEarlier}
 use Rattle.plan.specs.Inner.{nameLength}
 use Rattle.plan.proofs.Tests.{bool, eq-or-ne, and-left, and-right}
 
-pub ne-zero : (k : ℕ) → (k ≡ 0 → ⊥) → 1 ≤ k
-ne-zero zero h = absurd (h refl)
-ne-zero (suc k) h = omega arith
-
--- what is left of a field of n bytes, byte by byte
-pub field-next : (s : List ℕ) (at n k : ℕ) → k < n → at + n ≤ length s → take (n - k) (drop (at + k) s) ≡ getD s (at + k) 0 ∷ take (n - (k + 1)) (drop (at + (k + 1)) s)
-field-next s at n k h l =
-    let e : n - k ≡ suc (n - (k + 1)) = omega arith in
-    let a : at + (k + 1) ≡ suc (at + k) = omega arith in
-    let b : at + k < length s = omega arith in
-    rw (e, a, drop-cons s (at + k) 0 b)
-
-pub field-end : (s : List ℕ) (n k : ℕ) → n ≤ k → take (n - k) s ≡ []
-field-end s n k h = let e : n - k ≡ 0 = omega arith in rw e
+-- what is left of a field of n bytes after k of them
+abbrev pub rest : List ℕ → ℕ → ℕ → ℕ → List ℕ
+rest s at n k = take (n - k) (drop (at + k) s)
 
 drop-take : (k n : ℕ) (l : List ℕ) → drop k (take n l) ≡ take (n - k) (drop k l)
 drop-take zero n l = let e : n - 0 ≡ n = omega arith in rw e
@@ -34,17 +24,46 @@ drop-take (suc k) zero l = let e : 0 - suc k ≡ 0 = omega arith in rw e
 drop-take (suc k) (suc n) [] = let e : suc n - suc k ≡ n - k = omega arith in rw e (sym (take-nil (n - k)))
 drop-take (suc k) (suc n) (x ∷ l) = let e : suc n - suc k ≡ n - k = omega arith in rw e (drop-take k n l)
 
-pub field-drop : (s : List ℕ) (at n k : ℕ) → drop k (take n (drop at s)) ≡ take (n - k) (drop (at + k) s)
-field-drop s at n k = drop-take k n (drop at s) ∙ ap (take (n - k)) (drop-drop k at s)
+module _ (s : List ℕ) (at n : ℕ) where
+  pub rest-all : take n (drop at s) ≡ rest s at n 0
+  rest-all = let e : n - 0 ≡ n = omega arith in let a : at + 0 ≡ at = omega arith in rw (e, a)
+
+  module _ (k : ℕ) where
+    pub rest-next : k < n → at + n ≤ length s → rest s at n k ≡ getD s (at + k) 0 ∷ rest s at n (k + 1)
+    rest-next h l =
+        let e : n - k ≡ suc (n - (k + 1)) = omega arith in
+        let a : at + (k + 1) ≡ suc (at + k) = omega arith in
+        let b : at + k < length s = omega arith in
+        rw (e, a, drop-cons s (at + k) 0 b)
+
+    pub rest-end : n ≤ k → rest s at n k ≡ []
+    rest-end h = let e : n - k ≡ 0 = omega arith in rw e
+
+    pub rest-drop : drop k (take n (drop at s)) ≡ rest s at n k
+    rest-drop = drop-take k n (drop at s) ∙ ap (take (n - k)) (drop-drop k at s)
+
+-- a byte before others
+module _ (b : ℕ) (bs : List ℕ) where
+  pub length-more : isNameByte b ≡ true → nameLength (b ∷ bs) ≡ suc (nameLength bs)
+  length-more e = rw (e, nameLength)
+
+  pub length-stop : isNameByte b ≡ false → nameLength (b ∷ bs) ≡ 0
+  length-stop e = rw (e, nameLength)
 
 -- a name is good where its field begins with name bytes and the rest is zero
 name-begins : (l : List ℕ) → isNameByte (getD l 0 0) ≡ leb 1 (nameLength l)
 name-begins [] = refl
-name-begins (b ∷ bs) = elim (bool (isNameByte b)) [ inl e ↦ let h : 1 ≤ suc (nameLength bs) = omega arith in rw (e, nameLength) (sym (le-leb 1 (suc (nameLength bs)) h)) | inr e ↦ rw (e, nameLength) refl ]
+name-begins (b ∷ bs) = elim (bool (isNameByte b)) [
+  | inl e ↦ rw (length-more b bs e, e) (sym (le-leb 1 (suc (nameLength bs)) (omega arith)))
+  | inr e ↦ rw (length-stop b bs e, e) refl
+]
 
 name-rest : (l : List ℕ) → nameThenZeros l ≡ allZero (drop (nameLength l) l)
 name-rest [] = refl
-name-rest (b ∷ bs) = elim (bool (isNameByte b)) [ inl e ↦ rw (e, nameLength, nameThenZeros) (name-rest bs) | inr e ↦ rw (e, nameLength, nameThenZeros) refl ]
+name-rest (b ∷ bs) = elim (bool (isNameByte b)) [
+  | inl e ↦ rw (e, nameLength, nameThenZeros) (name-rest bs)
+  | inr e ↦ rw (e, nameLength, nameThenZeros) refl
+]
 
 pub name-ok-is : (l : List ℕ) → nameOk l ≡ (leb 1 (nameLength l) && allZero (drop (nameLength l) l))
 name-ok-is l = rw (name-begins, name-rest)
@@ -58,7 +77,8 @@ then-zeros [] e = refl
 then-zeros (b ∷ bs) e = elim (bool (isNameByte b)) [
   | inl n ↦ elim (eq-or-ne b 0) [
     | inl z ↦ absurd (false≢true (sym (zero-no-name b z) ∙ n))
-    | inr z ↦ rw (ne-eqb b 0 z, n, withoutZeros, nameLength) (ap (λ (l : List ℕ). b ∷ l) (then-zeros bs (rw (n, nameThenZeros) at e)))
+    | inr z ↦ let tail = then-zeros bs (rw (n, nameThenZeros) at e) in
+        rw (ne-eqb b 0 z, n, withoutZeros, nameLength) (ap (λ (l : List ℕ). b ∷ l) tail)
   ]
   | inr n ↦ rw (and-left (eqb b 0) (allZero bs) (rw (n, nameThenZeros) at e), n, withoutZeros, nameLength)
 ]
@@ -68,10 +88,14 @@ name-is l e = then-zeros l (and-right (isNameByte (getD l 0 0)) (nameThenZeros l
 
 pub name-length-le : (l : List ℕ) → nameLength l ≤ length l
 name-length-le [] = omega arith
-name-length-le (b ∷ bs) = elim (bool (isNameByte b)) [ inl e ↦ rw (e, nameLength) (omega (arith, name-length-le bs)) | inr e ↦ rw (e, nameLength) (omega arith) ]
+name-length-le (b ∷ bs) = elim (bool (isNameByte b)) [
+  | inl e ↦ omega (arith, length-more b bs e, name-length-le bs)
+  | inr e ↦ omega (arith, length-stop b bs e)
+]
 
 pub name-some : (l : List ℕ) → nameOk l ≡ true → 1 ≤ nameLength l
-name-some l e = leb-true 1 (nameLength l) (sym (name-begins l) ∙ and-left (isNameByte (getD l 0 0)) (nameThenZeros l) e)
+name-some l e =
+    leb-true 1 (nameLength l) (sym (name-begins l) ∙ and-left (isNameByte (getD l 0 0)) (nameThenZeros l) e)
 
 -- task i has the name of an earlier one
 pub earlier-found : (s : List ℕ) (i j m : ℕ) → j < m → same (nameField s i) (nameField s j) ≡ true → namedEarlier s i m ≡ true

@@ -1,9 +1,14 @@
 -- Laws of the plan file, by subject.
-pub mod Tests
-pub mod Rules
-pub mod Fields
-mod Gaps
-mod Columns
-mod Decoding
-pub mod Loading
-pub mod Accepted
+pub mod Tests  -- tests as facts
+pub mod Lists  -- tabulated lists, and lists stored into others
+pub mod Rules  -- the first broken rule
+pub mod Bytes  -- numbers as bytes
+pub mod Tables  -- rows and the tasks in them
+pub mod Fields  -- name fields
+pub mod Header  -- the rules 1 to 6
+mod Gaps  -- bytes in no area
+pub mod Valid  -- valid tasks
+pub mod Accepted  -- accepted files
+mod Decoding  -- tasks decoded one by one
+pub mod Loading  -- the file's refusal, and loaded plans
+pub mod Samples  -- the files of the examples

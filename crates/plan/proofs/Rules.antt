@@ -4,9 +4,9 @@ use mathlib.Core.Bool.{Bool, true, false}
 use mathlib.Core.Logic.{inl, inr}
 use Prim.Native.Nat.{ℕ, zero, suc, _+_, _-_, _≤_, _<_}
 use native.Mathlib.Omega.{arith}
-use lib.Dec.{leb}
-use borrow.Author.Tests.{le-leb, eq-eqb, ne-eqb}
-use Rattle.plan.specs.Faults.{Fault, fault, none, faultIf, orElse, firstFrom}
+use borrow.Author.Tests.{eq-eqb, ne-eqb}
+use Rattle.plan.specs.declared.faults.Fault.{Fault}
+use Rattle.plan.specs.Faults.{fault, none, faultIf, orElse, firstFrom}
 use Rattle.plan.proofs.Tests.{eq-or-ne}
 
 -- a rule that passed leaves the word to the next; one that did not has it
@@ -45,19 +45,21 @@ module _ (f : ℕ → Fault) (n i : ℕ) where
   run-if m p h e = run-here h (λ z. let q : suc m ≡ 0 = sym (ap (λ g. g .number) e) ∙ z in omega arith) ∙ e
 
   -- of tasks: the place of rule i is task i + 1
-  pub run-task : (m : ℕ) → i < n → f i ≡ fault (suc m) (suc i) → firstFrom f (n - i) i ≡ faultIf (leb 1 (i + 1)) (suc m) (i + 1)
-  run-task m h e = let a : suc i ≡ i + 1 = omega arith in rw (le-leb 1 (i + 1) (omega arith), ← a) (run-if m (suc i) h e)
+  pub run-task : (m : ℕ) → i < n → f i ≡ fault (suc m) (suc i) → firstFrom f (n - i) i ≡ fault (suc m) (i + 1)
+  run-task m h e = let a : suc i ≡ i + 1 = omega arith in rw (← a) (run-if m (suc i) h e)
 
   pub run-end : n ≤ i → firstFrom f (n - i) i ≡ none
   unfolding firstFrom
   run-end h = let e : n - i ≡ 0 = omega arith in rw e
 
 -- rules that pass are passed over, k at once
-pub run-skip : (f : ℕ → Fault) (n i k : ℕ) → i + k ≤ n → ((j : ℕ) → i ≤ j → j < i + k → f j .number ≡ 0) → firstFrom f (n - i) i ≡ firstFrom f (n - (i + k)) (i + k)
+pub run-skip : (f : ℕ → Fault) (n i k : ℕ) → i + k ≤ n → ((j : ℕ) → i ≤ j → j < i + k → f j .number ≡ 0)
+    → firstFrom f (n - i) i ≡ firstFrom f (n - (i + k)) (i + k)
 run-skip f n i zero h p = let e : i + 0 ≡ i = omega arith in rw e
 run-skip f n i (suc k) h p =
     let e : i + 1 + k ≡ i + suc k = omega arith in
-    run-next f n i (omega arith) (p i (omega arith) (omega arith)) ∙ rw e at (run-skip f n (i + 1) k (omega arith) (λ j l m. p j (omega arith) (omega arith)))
+    let others = run-skip f n (i + 1) k (omega arith) (λ j l m. p j (omega arith) (omega arith)) in
+    run-next f n i (omega arith) (p i (omega arith) (omega arith)) ∙ rw e at others
 
 -- a run without a fault: each of its rules passed
 pub run-passed : (f : ℕ → Fault) (left i : ℕ) → firstFrom f left i .number ≡ 0 → (k : ℕ) → i ≤ k → k < i + left → f k .number ≡ 0
@@ -71,7 +73,9 @@ run-passed f (suc left) i e k p q = elim (eq-or-ne i k) [
 pub run-none : (f : ℕ → Fault) (left i : ℕ) → firstFrom f left i .number ≡ 0 → firstFrom f left i ≡ none
 unfolding firstFrom
 run-none f zero i e = refl
-run-none f (suc left) i e = or-next (f i) _ (or-first (f i) (firstFrom f left (suc i)) e) ∙ run-none f left (suc i) (or-second (f i) (firstFrom f left (suc i)) e)
+run-none f (suc left) i e =
+    let others = firstFrom f left (suc i) in
+    or-next (f i) others (or-first (f i) others e) ∙ run-none f left (suc i) (or-second (f i) others e)
 
 -- a run with a fault: it is that of one of its rules
 pub run-some : (f : ℕ → Fault) (left i : ℕ) → (firstFrom f left i .number ≡ 0 → ⊥) → (k : ℕ) × ((k < i + left) × (firstFrom f left i ≡ f k))

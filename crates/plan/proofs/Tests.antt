@@ -45,6 +45,14 @@ pub or-cases : (a b : Bool) → (a || b) ≡ true → (a ≡ true) ⊎ (b ≡ tr
 or-cases true b e = inl refl
 or-cases false b e = inr e
 
+pub or-left : (a b : Bool) → (a || b) ≡ false → a ≡ false
+or-left true b e = e
+or-left false b e = refl
+
+pub or-right : (a b : Bool) → (a || b) ≡ false → b ≡ false
+or-right true b e = absurd (false≢true (sym e))
+or-right false b e = e
+
 pub between-le : (low x high : ℕ) → between low x high ≡ true → (low ≤ x) × (x ≤ high)
 between-le low x high e = (leb-true low x (and-left (leb low x) (leb x high) e), leb-true x high (and-right (leb low x) (leb x high) e))
 

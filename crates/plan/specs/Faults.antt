@@ -3,12 +3,9 @@ use mathlib.Core.Bool.{Bool, cond}
 use mathlib.Core.List.{List, [], _∷_}
 use Prim.Native.Nat.{ℕ, zero, suc}
 use lib.Dec.{eqb}
+use Rattle.plan.specs.declared.faults.Fault.{Fault}
 
 -- number 0 is no fault
-pub record Fault : Type 0 where
-  pub number : ℕ
-  pub place : ℕ
-
 abbrev pub fault : ℕ → ℕ → Fault
 fault n p = record { number = n; place = p }
 

@@ -1,13 +1,16 @@
 -- Refusals 1 to 11 in document 01's order, with their places; the tasks and names of an accepted file.
 use mathlib.Core.Bool.{Bool, _&&_, not, cond}
 use mathlib.Core.List.{List, [], _∷_}
-use Prim.Native.Nat.{ℕ, zero, suc, _+_, _-_, _*_}
+use Prim.Native.Nat.{ℕ, suc, _+_, _-_, _*_}
 use lib.Dec.{eqb, ltb}
 use lib.ListN.{length, getD}
+use Rattle.plan.specs.declared.faults.Fault.{Fault}
 use Rattle.plan.specs.declared.record.Task.{Task}
-use Rattle.plan.specs.Faults.{Fault, faultIf, passed, orElse, firstFault, firstFrom}
-use Rattle.plan.specs.Tasks.{maxTasks, minFile, maxFile, between, withinLimits, rowWidth, rowAt}
-use Rattle.plan.specs.Layout.{headerWidth, version, taskCount, totalLength, rowsAt, rowsEnd, namesAt, namesEnd, outside, overlap, inGap}
+use Rattle.plan.specs.Lists.{tabulate}
+use Rattle.plan.specs.Faults.{faultIf, passed, orElse, firstFault, firstFrom}
+use Rattle.plan.specs.Tasks.{maxTasks, minFile, maxFile, between, withinLimits, rowAt}
+use Rattle.plan.specs.Layout.{headerWidth, version, taskCount, totalLength, rowWidth}
+use Rattle.plan.specs.Layout.{rowsAt, rowsEnd, namesAt, namesEnd, outside, overlap, inGap}
 use Rattle.plan.specs.Names.{nameField, nameOk, withoutZeros, namedEarlier}
 
 -- "1: length below 16 or above 2,048. Place 0."
@@ -49,10 +52,11 @@ gapFault s = firstFrom (strayFault s) (length s - headerWidth) headerWidth
 
 -- "Then job by job: 8, a field outside its limits; 9, lo above hi; 10, a name not as above. Place: the job."
 abbrev pub taskOf : List ℕ → ℕ → Task
-taskOf s i = rowAt s (rowsAt s + rowWidth * i)
+taskOf s i = rowAt s (rowsAt s + rowWidth s * i)
 
 abbrev pub rowFault : Task → ℕ → Fault
-rowFault t i = orElse (faultIf (not (withinLimits t)) 8 (suc i)) (faultIf (ltb (t .«period_max») (t .«period_min»)) 9 (suc i))
+rowFault t i =
+    orElse (faultIf (not (withinLimits t)) 8 (suc i)) (faultIf (ltb (t .«period_max») (t .«period_min»)) 9 (suc i))
 
 abbrev pub taskFault : List ℕ → ℕ → Fault
 taskFault s i = orElse (rowFault (taskOf s i) i) (faultIf (not (nameOk (nameField s i))) 10 (suc i))
@@ -84,17 +88,9 @@ fileFault s = firstFault (layoutFault s ∷ gapFault s ∷ tasksFault s ∷ same
 abbrev pub accepted : List ℕ → Bool
 accepted s = passed (fileFault s)
 
-abbrev pub tasksFrom : List ℕ → ℕ → ℕ → List Task
-tasksFrom s zero i = []
-tasksFrom s (suc left) i = taskOf s i ∷ tasksFrom s left (suc i)
-
--- the tasks of an accepted file
+-- the tasks of a file; none where it is refused
 unfoldable pub tasksOf : List ℕ → List Task
-tasksOf s = tasksFrom s (taskCount s) 0
-
--- READ: "the file to n"; "READ's n [is] 0 when refused"
-abbrev pub tasksRead : List ℕ → ℕ
-tasksRead s = cond (accepted s) (taskCount s) 0
+tasksOf s = cond (accepted s) (tabulate (taskOf s) (taskCount s) 0) []
 
 -- whether a file is accepted and a task number, counted from 1, is one of its tasks
 abbrev pub isNamed : List ℕ → ℕ → Bool

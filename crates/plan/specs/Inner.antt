@@ -1,50 +1,57 @@
 -- What the inner functions promise, for their callers' proofs. A reader of the public calls needs none of it.
 use mathlib.Core.Path.{_≡_}
-use mathlib.Core.Bool.{true, false, cond}
+use mathlib.Core.Bool.{Bool, true, false, cond}
 use mathlib.Core.List.{List, [], _∷_}
-use Prim.Native.Nat.{ℕ, suc, _≤_}
-use lib.Dec.{ltb}
-use lib.ListN.{length}
+use Prim.Native.Nat.{ℕ, suc, _+_, _≤_, _<_}
+use lib.ListN.{length, take, drop}
+use Rattle.plan.specs.declared.faults.Fault.{Fault}
 use Rattle.plan.specs.declared.record.Task.{Task}
+use Rattle.plan.specs.declared.record.Plan.{Plan}
 use Rattle.plan.specs.declared.reader.Loaded.{Loaded}
 use Rattle.plan.specs.declared.rows.Row.{Row}
 use Rattle.plan.specs.declared.rows.Row.the-variants.{Decoded, Refused}
 use Rattle.plan.specs.declared.layout.Areas.{Areas}
 use Rattle.plan.specs.declared.layout.Layout.{Layout}
 use Rattle.plan.specs.declared.layout.Layout.the-variants.{Located, Broken}
-use Rattle.plan.specs.Faults.{passed}
-use Rattle.plan.specs.Tasks.{withinLimits, maxTasks, maxFile}
-use Rattle.plan.specs.Layout.{headerWidth, taskCount, rowsAt, rowsEnd, namesAt, namesEnd, inArea}
+use Rattle.plan.specs.Lists.{tabulate, same}
+use Rattle.plan.specs.Faults.{none, passed}
+use Rattle.plan.specs.Tasks.{maxTasks, maxFile}
+use Rattle.plan.specs.Layout.{headerWidth, taskCount, rowWidth, nameWidth, inArea}
+use Rattle.plan.specs.Layout.{rowsAt, rowsEnd, namesAt, namesEnd}
 use Rattle.plan.specs.Names.{isNameByte}
-use Rattle.plan.specs.Files.{layoutFault, tasksFault, tasksOf}
-use Rattle.plan.specs.Promises.{Holds}
+use Rattle.plan.specs.Files.{layoutFault, rowFault, taskOf, tasksFault, accepted}
+use Rattle.plan.specs.Promises.{planTasks}
 
--- the row decoder's answer, and the number of each of its cases
-abbrev pub decoded : Task → Row
-decoded t = cond (withinLimits t) (cond (ltb (t .«period_max») (t .«period_min»)) (Refused 9) (Decoded t)) (Refused 8)
+-- the row decoder's answer for task i, and the fault of each of its cases
+abbrev pub decoded : Task → ℕ → Row
+decoded t i = cond (passed (rowFault t i)) (Decoded t) (Refused (rowFault t i))
 
-abbrev pub numberOf : Row → ℕ
-numberOf (Decoded t) = 0
-numberOf (Refused n) = n
+abbrev pub faultOfRow : Row → Fault
+faultOfRow (Decoded t) = none
+faultOfRow (Refused f) = f
 
--- the header's answer, and the number and place of each of its cases
+-- the header's answer, and the fault of each of its cases
 abbrev pub areasOf : List ℕ → Areas
-areasOf s = record { tasks = taskCount s; rows = rowsAt s; «rows_end» = rowsEnd s; names = namesAt s; «names_end» = namesEnd s }
+areasOf s = record {
+  tasks = taskCount s;
+  «row_width» = rowWidth s;
+  rows = rowsAt s;
+  «rows_end» = rowsEnd s;
+  names = namesAt s;
+  «names_end» = namesEnd s;
+}
 
 abbrev pub laidOut : List ℕ → Layout
-laidOut s = cond (passed (layoutFault s)) (Located (areasOf s)) (Broken (layoutFault s .number) (layoutFault s .place))
+laidOut s = cond (passed (layoutFault s)) (Located (areasOf s)) (Broken (layoutFault s))
 
-abbrev pub layoutNumber : Layout → ℕ
-layoutNumber (Located a) = 0
-layoutNumber (Broken n p) = n
-
-abbrev pub layoutPlace : Layout → ℕ
-layoutPlace (Located a) = 0
-layoutPlace (Broken n p) = p
+abbrev pub faultOfLayout : Layout → Fault
+faultOfLayout (Located a) = none
+faultOfLayout (Broken f) = f
 
 -- the areas of a file that passed rules 1 to 6
 pub record AreasOf (s : List ℕ) (a : Areas) : Type 0 where
   pub tasks : a .tasks ≡ taskCount s
+  pub row-width : a .«row_width» ≡ rowWidth s
   pub rows : a .rows ≡ rowsAt s
   pub rows-end : a .«rows_end» ≡ rowsEnd s
   pub names : a .names ≡ namesAt s
@@ -59,21 +66,33 @@ pub record AreasOf (s : List ℕ) (a : Areas) : Type 0 where
 
 -- the end of the area that holds a byte, or its own offset
 abbrev pub areaEnd : Areas → ℕ → ℕ
-areaEnd a at = cond (inArea (a .rows) (a .«rows_end») at) (a .«rows_end») (cond (inArea (a .names) (a .«names_end») at) (a .«names_end») at)
+areaEnd a at =
+    cond (inArea (a .rows) (a .«rows_end») at) (a .«rows_end»)
+    (cond (inArea (a .names) (a .«names_end») at) (a .«names_end») at)
 
 -- how many name bytes a field begins with
 abbrev pub nameLength : List ℕ → ℕ
 nameLength [] = 0
 nameLength (b ∷ bs) = elim (isNameByte b) [ true ↦ suc (nameLength bs) | false ↦ 0 ]
 
--- a refusal with its number and place, and no task
-pub record Refuses (number place : ℕ) (r : Loaded) : Type 0 where
-  pub numbered : r .number ≡ number
-  pub placed : r .place ≡ place
-  pub empty : Holds (r .plan) []
+-- whether the name fields at two offsets are equal
+abbrev pub sameFields : List ℕ → ℕ → ℕ → Bool
+sameFields s a b = same (take nameWidth (drop a s)) (take nameWidth (drop b s))
 
--- rules 8 to 10 alone
+-- a refusal, and no task
+pub record Refuses (f : Fault) (r : Loaded) : Type 0 where
+  pub fault : r .fault ≡ f
+  pub none : r .plan .tasks ≡ 0
+
+-- rules 8 to 10 alone: so many tasks, unless one of them is refused
 pub record Decodes (s : List ℕ) (r : Loaded) : Type 0 where
-  pub number : r .number ≡ tasksFault s .number
-  pub place : r .place ≡ tasksFault s .place
-  pub plan : Holds (r .plan) (cond (passed (tasksFault s)) (tasksOf s) [])
+  pub fault : r .fault ≡ tasksFault s
+  pub count : r .plan .tasks ≡ cond (passed (tasksFault s)) (taskCount s) 0
+  pub tasks : planTasks (r .plan) ≡ cond (passed (tasksFault s)) (tabulate (taskOf s) (taskCount s) 0) []
+  pub names : r .fault .number ≡ 0 → r .names ≡ namesAt s
+
+-- task i, counted from 0, of an accepted file has its name in the area that begins at names
+pub record NameAt (s : List ℕ) (names i : ℕ) : Type 0 where
+  pub accepts : accepted s ≡ true
+  pub inside : i < taskCount s
+  pub begins : names ≡ namesAt s

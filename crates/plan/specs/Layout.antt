@@ -3,35 +3,37 @@ use mathlib.Core.Bool.{Bool, _&&_, _||_, not}
 use mathlib.Core.List.{List}
 use Prim.Native.Nat.{ℕ, _+_, _*_}
 use lib.Dec.{ltb, leb}
-use Rattle.plan.specs.Words.{word2, word4}
-use Rattle.plan.specs.Tasks.{rowWidth}
+use Rattle.plan.specs.Words.{word}
 
--- "A header of 16 bytes: version at 0 (2 bytes, value 1); n at 2 (2 bytes); offset of the rows at 4, offset of the names at 8,
--- total length at 12 (4 bytes each)"
+-- "A header of 16 bytes: version at 0 (2 bytes, value 1); n at 2 (2 bytes); offset of the rows at 4, offset of the
+-- names at 8, total length at 12 (4 bytes each)"
 abbrev pub headerWidth : ℕ
 headerWidth = 16
 
 abbrev pub version : List ℕ → ℕ
-version s = word2 s 0
+version s = word s 0 2
 
 abbrev pub taskCount : List ℕ → ℕ
-taskCount s = word2 s 2
+taskCount s = word s 2 2
 
 abbrev pub rowsAt : List ℕ → ℕ
-rowsAt s = word4 s 4
+rowsAt s = word s 4 4
 
 abbrev pub namesAt : List ℕ → ℕ
-namesAt s = word4 s 8
+namesAt s = word s 8 4
 
 abbrev pub totalLength : List ℕ → ℕ
-totalLength s = word4 s 12
+totalLength s = word s 12 4
 
 -- "The rows area is 20 × n bytes"; "The names area is 16 × n bytes"
+abbrev pub rowWidth : List ℕ → ℕ
+rowWidth s = 20
+
 abbrev pub nameWidth : ℕ
 nameWidth = 16
 
 abbrev pub rowsEnd : List ℕ → ℕ
-rowsEnd s = rowsAt s + rowWidth * taskCount s
+rowsEnd s = rowsAt s + rowWidth s * taskCount s
 
 abbrev pub namesEnd : List ℕ → ℕ
 namesEnd s = namesAt s + nameWidth * taskCount s

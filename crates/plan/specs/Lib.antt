@@ -1,7 +1,9 @@
 -- The plan file, in the order of document 01: limits and tasks, layout, names, refusals, and what the calls promise.
+pub mod Lists
 pub mod Faults
 pub mod Words
 pub mod Tasks
+pub mod Table
 pub mod Layout
 pub mod Names
 pub mod Files

@@ -4,6 +4,7 @@ use mathlib.Core.List.{List, [], _∷_}
 use Prim.Native.Nat.{ℕ, zero, suc, _+_, _*_}
 use lib.Dec.{eqb}
 use lib.ListN.{getD, take, drop}
+use Rattle.plan.specs.Lists.{same}
 use Rattle.plan.specs.Tasks.{between}
 use Rattle.plan.specs.Layout.{namesAt, nameWidth}
 
@@ -33,13 +34,6 @@ nameOk field = isNameByte (getD field 0 0) && nameThenZeros field
 abbrev pub withoutZeros : List ℕ → List ℕ
 withoutZeros [] = []
 withoutZeros (b ∷ bs) = elim (eqb b 0) [ true ↦ [] | false ↦ b ∷ withoutZeros bs ]
-
--- equality of two lists of numbers
-abbrev pub same : List ℕ → List ℕ → Bool
-same [] [] = true
-same [] (y ∷ ys) = false
-same (x ∷ xs) [] = false
-same (x ∷ xs) (y ∷ ys) = eqb x y && same xs ys
 
 -- "a name equal to an earlier one": task i's, among the first j
 abbrev pub namedEarlier : List ℕ → ℕ → ℕ → Bool

@@ -1,22 +1,22 @@
 -- What the public calls promise, of any bytes.
 use mathlib.Core.Path.{_≡_}
 use mathlib.Core.Bool.{true, cond}
-use mathlib.Core.List.{List, []}
-use Prim.Native.Nat.{ℕ, _+_, _-_, _<_}
+use mathlib.Core.List.{List}
+use Prim.Native.Nat.{ℕ, _+_, _-_, _*_, _≤_, _<_}
 use lib.ListN.{length, take}
 use Rattle.plan.specs.declared.record.Task.{Task}
 use Rattle.plan.specs.declared.record.Plan.{Plan}
 use Rattle.plan.specs.declared.reader.Read.{Read}
 use Rattle.plan.specs.declared.reader.Loaded.{Loaded}
-use Rattle.plan.specs.Tasks.{wcets, periodMins, periodMaxs, deadlineCaps, weights}
+use Rattle.plan.specs.Tasks.{maxTasks, AllValid}
+use Rattle.plan.specs.Table.{rowFields, tasksIn}
+use Rattle.plan.specs.Layout.{namesAt}
 use Rattle.plan.specs.Names.{nameStart}
-use Rattle.plan.specs.Files.{fileFault, accepted, tasksOf, tasksRead, isNamed, nameOf}
+use Rattle.plan.specs.Files.{fileFault, accepted, tasksOf, isNamed, nameOf}
 
--- READ
-pub record Reads (s : List ℕ) (r : Read) : Type 0 where
-  pub number : r .number ≡ fileFault s .number
-  pub place : r .place ≡ fileFault s .place
-  pub tasks : r .tasks ≡ tasksRead s
+-- READ: "the file to n"; "READ's n [is] 0 when refused"
+abbrev pub readOf : List ℕ → Read
+readOf s = record { fault = fileFault s; tasks = length (tasksOf s) }
 
 -- NAME: the part p′ of the bytes s that stand at p, a block and an offset into it
 pub record Names (p : ℕ × ℕ) (s : List ℕ) (task : ℕ) (p′ : ℕ × ℕ) (name : List ℕ) : Type 0 where
@@ -25,17 +25,21 @@ pub record Names (p : ℕ × ℕ) (s : List ℕ) (task : ℕ) (p′ : ℕ × ℕ
   pub bytes : name ≡ nameOf s task
   pub not-empty : isNamed s task ≡ true → 0 < length name
 
--- a plan record holds these tasks: so many, and their columns at the front of its arrays
-pub record Holds (p : Plan) (ts : List Task) : Type 0 where
-  pub count : p .tasks ≡ length ts
-  pub wcet : take (p .tasks) (p .wcet) ≡ wcets ts
-  pub periodMin : take (p .tasks) (p .«period_min») ≡ periodMins ts
-  pub periodMax : take (p .tasks) (p .«period_max») ≡ periodMaxs ts
-  pub deadlineCap : take (p .tasks) (p .«deadline_cap») ≡ deadlineCaps ts
-  pub weight : take (p .tasks) (p .weight) ≡ weights ts
+-- the tasks of a plan record: so many rows at the front of its table
+abbrev pub planTasks : Plan → List Task
+planTasks p = tasksIn (take (rowFields * p .tasks) (p .table))
 
--- a plan loaded: the refusal, or the file's tasks
+-- a plan loaded, for the layers above: the refusal, the file's tasks, and where its names are
 pub record Loads (s : List ℕ) (r : Loaded) : Type 0 where
-  pub number : r .number ≡ fileFault s .number
-  pub place : r .place ≡ fileFault s .place
-  pub plan : Holds (r .plan) (cond (accepted s) (tasksOf s) [])
+  pub fault : r .fault ≡ fileFault s
+  pub tasks : planTasks (r .plan) ≡ tasksOf s
+  pub names : accepted s ≡ true → r .names ≡ namesAt s
+
+-- what those layers may count on: a number of the file's own rules, valid tasks, as many as the record says, and some
+-- where no rule is broken
+pub record Usable (r : Loaded) : Type 0 where
+  pub numbered : r .fault .number ≤ 11
+  pub count : r .plan .tasks ≡ length (planTasks (r .plan))
+  pub few : r .plan .tasks ≤ maxTasks
+  pub some : r .fault .number ≡ 0 → 1 ≤ r .plan .tasks
+  pub valid : AllValid (planTasks (r .plan))

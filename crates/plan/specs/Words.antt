@@ -1,11 +1,18 @@
--- "Little-endian."
-use mathlib.Core.List.{List}
-use Prim.Native.Nat.{ℕ, _+_, _*_}
-use lib.ListN.{getD}
+-- "Little-endian.": numbers as bytes, and bytes as numbers.
+use mathlib.Core.List.{List, [], _∷_, _++_}
+use Prim.Native.Nat.{ℕ, zero, suc, _+_, _*_, _/_, _%_}
+use lib.ListN.{take, drop}
 
--- the number in 2 bytes, and in 4, from an offset on
-abbrev pub word2 : List ℕ → ℕ → ℕ
-word2 s at = getD s at 0 + 256 * getD s (at + 1) 0
+-- the number that bytes hold
+unfoldable pub valueOf : List ℕ → ℕ
+valueOf [] = 0
+valueOf (b ∷ bs) = b + 256 * valueOf bs
 
-abbrev pub word4 : List ℕ → ℕ → ℕ
-word4 s at = word2 s at + 65536 * word2 s (at + 2)
+-- a number in so many bytes
+unfoldable pub bytesOf : ℕ → ℕ → List ℕ
+bytesOf zero v = []
+bytesOf (suc width) v = v % 256 ∷ bytesOf width (v / 256)
+
+-- the number in so many bytes from an offset on
+abbrev pub word : List ℕ → ℕ → ℕ → ℕ
+word s at width = valueOf (take width (drop at s))

@@ -1,11 +1,8 @@
 ghost use mathlib.Core.Path.{_≡_};
-ghost use Prim.Native.Nat.{_≤_, _<_};
-ghost use lib.Dec.{leb};
-ghost use lib.ListN.{length};
-ghost use Rattle.plan.specs.Faults.{faultIf};
 ghost use Rattle.plan.specs.Layout.{outside, overlap, inArea};
 ghost use Rattle.plan.specs.Files.{headerFault, gapFault};
-ghost use Rattle.plan.specs.Inner.{laidOut, AreasOf, areaEnd};
+ghost use Rattle.plan.specs.Inner.{laidOut, faultOfLayout, AreasOf, areaEnd};
+use super::faults::Fault;
 use super::record::Plan;
 use super::words::word2_at;
 use super::words::word4_at;
@@ -16,46 +13,53 @@ pub const ROW_WIDTH: usize = 20;
 
 pub const NAME_WIDTH: usize = 16;
 
-// Where a file's rows and names start and end, and how many tasks it has.
+// Where a file's rows and names start and end, how wide a row is, and how many tasks there are.
 pub struct Areas {
     pub tasks: usize,
+    pub row_width: usize,
     pub rows: usize,
     pub rows_end: usize,
     pub names: usize,
     pub names_end: usize,
 }
 
-// What the header says: the areas, or the refusal's number and place.
+// What the header says: the areas, or the refusal.
 pub enum Layout {
     Located(Areas),
-    Broken(u32, u32),
+    Broken(Fault),
 }
 
-// Rules 1 to 4: the number of the first that is broken, or 0.
-fn header_fault(file: &[u8]) -> u32
-    ensures { λ r. ⌜ headerFault (now (file .entry)) ≡ faultIf (leb 1 r) r 0 ⌝ }
+fn header_broken(number: u32) -> Fault
+    ensures { λ r. ⌜ r ≡ record { number = number; place = 0 } ⌝ }
+{
+    Fault { number, place: 0 }
+}
+
+// Rules 1 to 4.
+fn header_fault(file: &[u8]) -> Fault
+    ensures { λ r. ⌜ r ≡ headerFault (now (file .entry)) ⌝ }
 {
     let size = file.len();
     if size < Plan::MIN_FILE {
-        return 1;
+        return header_broken(1);
     }
     if Plan::MAX_FILE < size {
-        return 1;
+        return header_broken(1);
     }
     if word2_at(file, 0) != 1 {
-        return 2;
+        return header_broken(2);
     }
     let count = word2_at(file, 2) as usize;
     if count < 1 {
-        return 3;
+        return header_broken(3);
     }
     if Plan::MAX_TASKS < count {
-        return 3;
+        return header_broken(3);
     }
     if word4_at(file, 12) as usize != size {
-        return 4;
+        return header_broken(4);
     }
-    0
+    Fault::none()
 }
 
 fn outside(total: usize, start: usize, end: usize) -> bool
@@ -78,9 +82,9 @@ fn overlap(a: usize, b: usize, c: usize, d: usize) -> bool
 pub fn layout_of(file: &[u8]) -> Layout
     ensures { λ r. ⌜ r ≡ laidOut (now (file .entry)) ⌝ }
 {
-    let broken = header_fault(file);
-    if broken != 0 {
-        return Layout::Broken(broken, 0);
+    let fault = header_fault(file);
+    if fault.number != 0 {
+        return Layout::Broken(fault);
     }
     let total = file.len();
     let tasks = word2_at(file, 2) as usize;
@@ -89,21 +93,40 @@ pub fn layout_of(file: &[u8]) -> Layout
     let names = word4_at(file, 8) as usize;
     let names_end = names + NAME_WIDTH * tasks;
     if outside(total, rows, rows_end) {
-        return Layout::Broken(5, 1);
+        return Layout::Broken(Fault {
+            number: 5,
+            place: 1,
+        });
     }
     if outside(total, names, names_end) {
-        return Layout::Broken(5, 2);
+        return Layout::Broken(Fault {
+            number: 5,
+            place: 2,
+        });
     }
     if overlap(rows, rows_end, names, names_end) {
-        return Layout::Broken(6, 0);
+        return Layout::Broken(Fault {
+            number: 6,
+            place: 0,
+        });
     }
     Layout::Located(Areas {
         tasks,
+        row_width: ROW_WIDTH,
         rows,
         rows_end,
         names,
         names_end,
     })
+}
+
+pub fn layout_fault(layout: Layout) -> Fault
+    ensures { λ r. ⌜ r ≡ faultOfLayout layout ⌝ }
+{
+    match layout {
+        Layout::Located(_) => Fault::none(),
+        Layout::Broken(f) => f,
+    }
 }
 
 fn in_area(start: usize, end: usize, at: usize) -> bool
@@ -125,22 +148,25 @@ fn area_end(areas: Areas, at: usize) -> usize
     at
 }
 
-// Rule 7: the offset of the first byte in a gap that is not zero, or 0.
-pub fn stray_byte(file: &[u8], areas: Areas) -> usize
+// Rule 7: the first byte in a gap that is not zero.
+pub fn stray_byte(file: &[u8], areas: Areas) -> Fault
     requires { ⌜ AreasOf (now file) areas ⌝ }
-    ensures { λ r. ⌜ (gapFault (now (file .entry)) ≡ faultIf (leb 1 r) 7 r) × (r ≤ length (now (file .entry))) ⌝ }
+    ensures { λ r. ⌜ r ≡ gapFault (now (file .entry)) ⌝ }
 {
     let mut at = HEADER_WIDTH;
     while at < file.len() {
         let end = area_end(areas, at);
         if end == at {
             if file[at] != 0 {
-                return at;
+                return Fault {
+                    number: 7,
+                    place: at as u32,
+                };
             }
             at += 1;
         } else {
             at = end;
         }
     }
-    0
+    Fault::none()
 }

@@ -1,16 +1,15 @@
 ghost use mathlib.Core.Path.{_≡_};
 ghost use Prim.Native.Nat.{_+_, _≤_, _<_};
-ghost use lib.Dec.{leb};
 ghost use lib.ListN.{length, take, drop};
-ghost use Rattle.plan.specs.Faults.{faultIf};
 ghost use Rattle.plan.specs.Layout.{nameWidth};
-ghost use Rattle.plan.specs.Names.{isNameByte, allZero, nameOk, same, namedEarlier};
+ghost use Rattle.plan.specs.Names.{isNameByte, allZero, nameOk, namedEarlier};
 ghost use Rattle.plan.specs.Files.{sameNameFault};
-ghost use Rattle.plan.specs.Inner.{AreasOf, nameLength};
+ghost use Rattle.plan.specs.Inner.{AreasOf, nameLength, sameFields};
+use super::faults::Fault;
 use super::layout::Areas;
 use super::layout::NAME_WIDTH;
 use super::words::between;
-use super::words::wide;
+use super::words::byte;
 
 fn is_name_byte(b: u32) -> bool
     ensures { λ r. ⌜ r ≡ isNameByte b ⌝ }
@@ -30,11 +29,12 @@ fn is_name_byte(b: u32) -> bool
 // How many name bytes a field begins with.
 pub fn name_length(file: &[u8], at: usize) -> usize
     requires { ⌜ at + nameWidth ≤ length (now file) ⌝ }
-    ensures { λ r. ⌜ (r ≡ nameLength (take nameWidth (drop at (now (file .entry))))) × (r ≤ nameWidth) ⌝ }
+    ensures is { λ r. ⌜ r ≡ nameLength (take nameWidth (drop at (now (file .entry)))) ⌝ }
+    ensures within { λ r. ⌜ r ≤ nameWidth ⌝ }
 {
     let mut k = 0;
     while k < NAME_WIDTH {
-        if !is_name_byte(wide(file[at + k])) {
+        if !is_name_byte(byte(file[at + k])) {
             return k;
         }
         k += 1;
@@ -71,7 +71,7 @@ pub fn name_ok(file: &[u8], at: usize) -> bool
 // Whether two fields are equal.
 fn same_field(file: &[u8], a: usize, b: usize) -> bool
     requires { ⌜ (a + nameWidth ≤ length (now file)) × (b + nameWidth ≤ length (now file)) ⌝ }
-    ensures { λ r. ⌜ r ≡ same (take nameWidth (drop a (now (file .entry)))) (take nameWidth (drop b (now (file .entry)))) ⌝ }
+    ensures { λ r. ⌜ r ≡ sameFields (now (file .entry)) a b ⌝ }
 {
     let mut k = 0;
     while k < NAME_WIDTH {
@@ -98,18 +98,21 @@ fn named_earlier(file: &[u8], areas: Areas, i: usize) -> bool
     false
 }
 
-// Rule 11: the number of the first task whose name an earlier one has, or 0.
-pub fn repeated_name(file: &[u8], areas: Areas) -> u32
+// Rule 11: the first task whose name an earlier one has.
+pub fn repeated_name(file: &[u8], areas: Areas) -> Fault
     requires { ⌜ AreasOf (now file) areas ⌝ }
-    ensures { λ r. ⌜ sameNameFault (now (file .entry)) ≡ faultIf (leb 1 r) 11 r ⌝ }
+    ensures { λ r. ⌜ r ≡ sameNameFault (now (file .entry)) ⌝ }
 {
     let n = areas.tasks;
     let mut i = 0;
     while i < n {
         if named_earlier(file, areas, i) {
-            return (i + 1) as u32;
+            return Fault {
+                number: 11,
+                place: (i + 1) as u32,
+            };
         }
         i += 1;
     }
-    0
+    Fault::none()
 }

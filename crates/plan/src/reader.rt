@@ -1,9 +1,12 @@
-ghost use Rattle.plan.specs.Promises.{Reads, Names, Loads};
-ghost use Rattle.plan.specs.Inner.{AreasOf, layoutNumber, layoutPlace, Refuses, Decodes};
+ghost use mathlib.Core.Path.{_≡_};
+ghost use Prim.Native.Nat.{_+_};
+ghost use Rattle.plan.specs.Promises.{readOf, Names, Loads, Usable};
+ghost use Rattle.plan.specs.Inner.{AreasOf, Refuses, Decodes, NameAt};
+use super::faults::Fault;
 use super::layout::Areas;
 use super::layout::Layout;
 use super::layout::NAME_WIDTH;
-use super::layout::ROW_WIDTH;
+use super::layout::layout_fault;
 use super::layout::layout_of;
 use super::layout::stray_byte;
 use super::names::name_length;
@@ -11,41 +14,31 @@ use super::names::name_ok;
 use super::names::repeated_name;
 use super::record::Plan;
 use super::rows::Row;
-use super::rows::number_of;
 use super::rows::row_at;
+use super::rows::row_fault;
+use super::table::write_row;
 use super::words::between;
-use super::words::word4_at;
 
-// READ's answer: the refusal's number and place, 0 and 0 for an accepted file, and its count of tasks.
+// READ's answer: the refusal, and the count of tasks of an accepted file.
 pub struct Read {
-    pub number: u32,
-    pub place: u32,
+    pub fault: Fault,
     pub tasks: u32,
 }
 
-// A plan, or the refusal of its file: number 0 with the plan, else the number, the place and a plan with no task.
+// A plan and the offset of its names, or the refusal of its file with a plan of no task.
 pub struct Loaded {
-    pub number: u32,
-    pub place: u32,
+    pub fault: Fault,
     pub plan: Plan,
+    pub names: usize,
 }
 
-fn refused(number: u32, place: u32) -> Loaded
-    ensures { λ r. ⌜ Refuses number place r ⌝ }
+fn refused(fault: Fault) -> Loaded
+    ensures { λ r. ⌜ Refuses fault r ⌝ }
 {
     Loaded {
-        number,
-        place,
-        plan: Plan::new(),
-    }
-}
-
-fn layout_refused(layout: Layout) -> Loaded
-    ensures { λ r. ⌜ Refuses (layoutNumber layout) (layoutPlace layout) r ⌝ }
-{
-    match layout {
-        Layout::Located(_) => refused(0, 0),
-        Layout::Broken(number, place) => refused(number, place),
+        fault,
+        plan: Plan::new(0, [0; Plan::TABLE]),
+        names: 0,
     }
 }
 
@@ -55,75 +48,89 @@ fn decode_tasks(file: &[u8], areas: Areas) -> Loaded
     ensures { λ r. ⌜ Decodes (now (file .entry)) r ⌝ }
 {
     let n = areas.tasks;
-    let rows = areas.rows;
     let names = areas.names;
-    let mut plan = Plan::new();
-    let mut i = 0;
+    let mut table = [0u32; Plan::TABLE];
+    let mut i: usize = 0;
     while i < n {
-        let row = row_at(file, rows + ROW_WIDTH * i);
+        let row = row_at(file, areas.rows + areas.row_width * i, i);
         let Row::Decoded(task) = row else {
-            return refused(number_of(row), (i + 1) as u32);
+            return refused(row_fault(row));
         };
         if !name_ok(file, names + NAME_WIDTH * i) {
-            return refused(10, (i + 1) as u32);
+            return refused(Fault {
+                number: 10,
+                place: (i + 1) as u32,
+            });
         }
-        plan = plan.with_task(task);
+        let at = Plan::ROW_FIELDS * i;
+        let end = at + Plan::ROW_FIELDS;
+        write_row(&mut table[at..end], task);
         i += 1;
     }
     Loaded {
-        number: 0,
-        place: 0,
-        plan,
+        fault: Fault::none(),
+        plan: Plan::new(n, table),
+        names,
     }
 }
 
 // The plan of a file, or its refusal by rules 1 to 11.
 pub fn load_plan(file: &[u8]) -> Loaded
-    ensures { λ r. ⌜ Loads (now (file .entry)) r ⌝ }
+    ensures loads { λ r. ⌜ Loads (now (file .entry)) r ⌝ }
+    ensures usable { λ r. ⌜ Usable r ⌝ }
 {
     let layout = layout_of(file);
     let Layout::Located(areas) = layout else {
-        return layout_refused(layout);
+        return refused(layout_fault(layout));
     };
     let stray = stray_byte(file, areas);
-    if stray != 0 {
-        return refused(7, stray as u32);
+    if stray.number != 0 {
+        return refused(stray);
     }
     let decoded = decode_tasks(file, areas);
-    if decoded.number != 0 {
+    if decoded.fault.number != 0 {
         return decoded;
     }
     let repeated = repeated_name(file, areas);
-    if repeated != 0 {
-        return refused(11, repeated);
+    if repeated.number != 0 {
+        return refused(repeated);
     }
     decoded
 }
 
 // READ: how many tasks a file has, or its refusal.
 pub fn read_plan(file: &[u8]) -> Read
-    ensures { λ r. ⌜ Reads (now (file .entry)) r ⌝ }
+    ensures { λ r. ⌜ r ≡ readOf (now (file .entry)) ⌝ }
 {
     let loaded = load_plan(file);
+    let fault = loaded.fault;
     Read {
-        number: loaded.number,
-        place: loaded.place,
+        fault,
         tasks: loaded.plan.tasks as u32,
     }
 }
 
-// NAME: a task's name, counted from 1, as the part of the file that holds it; the empty part at its start where there is none.
+// The name of task i, counted from 0, of an accepted file whose names begin at an offset.
+pub fn name_at<'a>(file: &'a [u8], names: usize, i: usize) -> &'a [u8]
+    requires { ⌜ NameAt (now file) names i ⌝ }
+    ensures { λ p. ⌜ Names (file .entry .ptr) (now (file .entry)) (i + 1) (p .ptr) (now p) ⌝ }
+{
+    let at = names + NAME_WIDTH * i;
+    let end = at + name_length(file, at);
+    &file[at..end]
+}
+
+// NAME: a task's name, counted from 1, as the part of the file that holds it; the empty part at its start where there
+// is none.
 pub fn task_name<'a>(file: &'a [u8], task: u32) -> &'a [u8]
     ensures { λ p. ⌜ Names (file .entry .ptr) (now (file .entry)) task (p .ptr) (now p) ⌝ }
 {
-    let read = read_plan(file);
-    if read.number != 0 {
+    let loaded = load_plan(file);
+    if loaded.fault.number != 0 {
         return &file[..0];
     }
-    if !between(1, task, read.tasks) {
+    if !between(1, task, loaded.plan.tasks as u32) {
         return &file[..0];
     }
-    let at = word4_at(file, 8) as usize + NAME_WIDTH * (task as usize - 1);
-    let end = at + name_length(file, at);
-    &file[at..end]
+    name_at(file, loaded.names, task as usize - 1)
 }

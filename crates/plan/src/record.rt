@@ -1,9 +1,5 @@
 ghost use mathlib.Core.Path.{_≡_};
-ghost use mathlib.Core.List.{List, [], _∷_, _++_};
-ghost use Prim.Native.Nat.{_<_};
-ghost use Rattle.plan.specs.Tasks.{maxTasks, withinLimits};
-ghost use Rattle.plan.specs.Promises.{Holds};
-ghost use Rattle.plan.specs.declared.record.Task as T;
+ghost use Rattle.plan.specs.Tasks.{withinLimits};
 use super::words::between;
 
 // A task, as its row of the file has it; times in ticks.
@@ -15,14 +11,11 @@ pub struct Task {
     pub weight: u32,
 }
 
-// A plan: its tasks as columns, highest priority first; the inner functions of the later layers are lent single columns.
+// A plan: how many tasks, and their table of rows, highest priority first; the inner functions of the later layers are
+// lent the rows.
 pub struct Plan {
     pub tasks: usize,
-    pub wcet: [u32; Plan::MAX_TASKS],
-    pub period_min: [u32; Plan::MAX_TASKS],
-    pub period_max: [u32; Plan::MAX_TASKS],
-    pub deadline_cap: [u32; Plan::MAX_TASKS],
-    pub weight: [u32; Plan::MAX_TASKS],
+    pub table: [u32; Plan::TABLE],
 }
 
 impl Plan {
@@ -36,33 +29,16 @@ impl Plan {
 
     pub const MAX_FILE: usize = 2_048;
 
-    // A plan with no task.
-    pub fn new() -> Plan
-        ensures { λ r. ⌜ Holds r [] ⌝ }
-    {
-        Plan {
-            tasks: 0,
-            wcet: [0; Plan::MAX_TASKS],
-            period_min: [0; Plan::MAX_TASKS],
-            period_max: [0; Plan::MAX_TASKS],
-            deadline_cap: [0; Plan::MAX_TASKS],
-            weight: [0; Plan::MAX_TASKS],
-        }
-    }
+    // The fields of a row, and the numbers of a table.
+    pub const ROW_FIELDS: usize = 5;
 
-    // The plan with one task more, below the others.
-    pub(crate) fn with_task(mut self, t: Task) -> Plan
-        requires { ⌜ self .tasks < maxTasks ⌝ }
-        ensures { λ r. ⌜ ((ts : List T.Task) → Holds self ts → Holds r (ts ++ (t ∷ []))) ⌝ }
+    pub const TABLE: usize = Plan::MAX_TASKS * Plan::ROW_FIELDS;
+
+    // The first tasks of a table.
+    pub fn new(tasks: usize, table: [u32; Plan::TABLE]) -> Plan
+        ensures { λ r. ⌜ r ≡ record { tasks = tasks; table = table } ⌝ }
     {
-        let k = self.tasks;
-        self.wcet[k] = t.wcet;
-        self.period_min[k] = t.period_min;
-        self.period_max[k] = t.period_max;
-        self.deadline_cap[k] = t.deadline_cap;
-        self.weight[k] = t.weight;
-        self.tasks = k + 1;
-        self
+        Plan { tasks, table }
     }
 }
 

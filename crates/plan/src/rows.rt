@@ -1,47 +1,58 @@
 ghost use mathlib.Core.Path.{_≡_};
-ghost use Prim.Native.Nat.{_+_, _≤_};
+ghost use Prim.Native.Nat.{_+_, _≤_, _<_};
 ghost use lib.ListN.{length};
-ghost use Rattle.plan.specs.Tasks.{rowWidth, rowAt};
-ghost use Rattle.plan.specs.Inner.{decoded, numberOf};
+ghost use Rattle.plan.specs.Tasks.{rowAt, maxTasks};
+ghost use Rattle.plan.specs.Layout.{rowWidth};
+ghost use Rattle.plan.specs.Inner.{decoded, faultOfRow};
+use super::faults::Fault;
 use super::record::Task;
 use super::words::word4_at;
 
-// What a row of the file holds: a task, or the number of the rule that it breaks.
+// What a row of the file holds: a task, or its refusal.
 pub enum Row {
     Decoded(Task),
-    Refused(u32),
+    Refused(Fault),
 }
 
-fn checked(t: Task) -> Row
-    ensures { λ r. ⌜ r ≡ decoded t ⌝ }
+// Rules 8 and 9 of task i.
+fn checked(t: Task, i: usize) -> Row
+    requires { ⌜ i < maxTasks ⌝ }
+    ensures { λ r. ⌜ r ≡ decoded t i ⌝ }
 {
     if !t.within_limits() {
-        return Row::Refused(8);
+        return Row::Refused(Fault {
+            number: 8,
+            place: (i + 1) as u32,
+        });
     }
     if t.period_max < t.period_min {
-        return Row::Refused(9);
+        return Row::Refused(Fault {
+            number: 9,
+            place: (i + 1) as u32,
+        });
     }
     Row::Decoded(t)
 }
 
-pub fn row_at(file: &[u8], at: usize) -> Row
-    requires { ⌜ at + rowWidth ≤ length (now file) ⌝ }
-    ensures { λ r. ⌜ r ≡ decoded (rowAt (now (file .entry)) at) ⌝ }
+pub fn row_at(file: &[u8], at: usize, i: usize) -> Row
+    requires { ⌜ (at + rowWidth (now file) ≤ length (now file)) × (i < maxTasks) ⌝ }
+    ensures { λ r. ⌜ r ≡ decoded (rowAt (now (file .entry)) at) i ⌝ }
 {
-    checked(Task {
+    let task = Task {
         wcet: word4_at(file, at),
         period_min: word4_at(file, at + 4),
         period_max: word4_at(file, at + 8),
         deadline_cap: word4_at(file, at + 12),
         weight: word4_at(file, at + 16),
-    })
+    };
+    checked(task, i)
 }
 
-pub fn number_of(r: Row) -> u32
-    ensures { λ n. ⌜ n ≡ numberOf r ⌝ }
+pub fn row_fault(r: Row) -> Fault
+    ensures { λ f. ⌜ f ≡ faultOfRow r ⌝ }
 {
     match r {
-        Row::Decoded(_) => 0,
-        Row::Refused(n) => n,
+        Row::Decoded(_) => Fault::none(),
+        Row::Refused(f) => f,
     }
 }

@@ -1,47 +1,41 @@
 -- The list of response times, number by number, as it is written, counted and searched.
-use mathlib.Core.Path.{_≡_, refl, sym, ap, _∙_}
+use mathlib.Core.Path.{_≡_, sym, ap, _∙_}
 use mathlib.Core.Logic.{inl, inr}
 use mathlib.Core.List.{List}
-use Prim.Native.Nat.{ℕ, zero, suc, _+_, _<_}
+use Prim.Native.Nat.{ℕ, suc, _+_, _<_}
 use native.Mathlib.Omega.{arith}
 use native.Mathlib.Numerals.{add-one}
 use lib.ListN.{length, getD, drop, set}
 use lib.Seq.{drop-cons, getD-set-same, getD-set-other, ext-getD}
 use borrow.Author.Tests.{eq-eqb, ne-eqb}
+use Rattle.plan.specs.declared.record.Task.{Task}
 use Rattle.plan.proofs.Tests.{eq-or-ne}
-use Rattle.response.specs.Analysis.{Timing, taskTotal, responseTime, responseTimesFrom, responseTimes, missedCount, firstMissedFrom}
+use Rattle.plan.proofs.Lists.{tabulate-length, tabulate-at}
+use Rattle.response.specs.Analysis.{responseTime, responseTimes, missedCount, firstMissedFrom}
 
-module _ (T : Timing) (xs : List ℕ) where
-  from-length : (left i : ℕ) → length (responseTimesFrom T xs left i) ≡ left
-  from-length zero i = refl
-  from-length (suc left) i = ap suc (from-length left (suc i))
-
-  from-at : (left i k : ℕ) → k < left → getD (responseTimesFrom T xs left i) k 0 ≡ responseTime T xs (i + k)
-  from-at zero i k h = let z : ⊥ = omega arith in absurd z
-  from-at (suc left) i zero h = let e : i + 0 ≡ i = omega arith in rw e
-  from-at (suc left) i (suc k) h = let e : i + suc k ≡ suc i + k = omega arith in rw e (from-at left (suc i) k (omega arith))
-
-  pub times-length : length (responseTimes T xs) ≡ taskTotal T
+module _ (ts : List Task) (xs : List ℕ) where
+  pub times-length : length (responseTimes ts xs) ≡ length ts
   unfolding responseTimes
-  times-length = from-length (taskTotal T) 0
+  times-length = tabulate-length (responseTime ts xs) (length ts) 0
 
-  pub times-at : (k : ℕ) → k < taskTotal T → getD (responseTimes T xs) k 0 ≡ responseTime T xs k
+  pub times-at : (k : ℕ) → k < length ts → getD (responseTimes ts xs) k 0 ≡ responseTime ts xs k
   unfolding responseTimes
-  times-at k h = let e : 0 + k ≡ k = omega arith in from-at (taskTotal T) 0 k h ∙ ap (responseTime T xs) e
+  times-at k h =
+      let e : 0 + k ≡ k = omega arith in tabulate-at (responseTime ts xs) (length ts) 0 k 0 h ∙ ap (responseTime ts xs) e
 
   -- a space whose first i numbers are written
   abbrev pub Written : List ℕ → ℕ → Type 0
-  Written o i = (k : ℕ) → k < i → getD o k 0 ≡ responseTime T xs k
+  Written o i = (k : ℕ) → k < i → getD o k 0 ≡ responseTime ts xs k
 
-  pub written-more : (o : List ℕ) (i v : ℕ) → i < length o → v ≡ responseTime T xs i → Written o i → Written (set o i v) (i + 1)
+  pub written-more : (o : List ℕ) (i v : ℕ) → i < length o → v ≡ responseTime ts xs i → Written o i → Written (set o i v) (i + 1)
   written-more o i v h e w k l =
       elim (eq-or-ne k i) [
         | inl z ↦ rw (z, getD-set-same o i v 0 h) e
         | inr z ↦ rw (getD-set-other o i k v 0 z) (w k (omega arith))
       ]
 
-  pub all-written : (o : List ℕ) → length o ≡ taskTotal T → Written o (length o) → o ≡ responseTimes T xs
-  all-written o n w = ext-getD 0 o (responseTimes T xs) (n ∙ sym times-length) (λ k h. w k h ∙ sym (times-at k (omega arith)))
+  pub all-written : (o : List ℕ) → length o ≡ length ts → Written o (length o) → o ≡ responseTimes ts xs
+  all-written o n w = ext-getD 0 o (responseTimes ts xs) (n ∙ sym times-length) (λ k h. w k h ∙ sym (times-at k (omega arith)))
 
 -- one number counted, or passed in the search
 module _ (rs : List ℕ) (i : ℕ) (h : i < length rs) where
@@ -55,4 +49,4 @@ module _ (rs : List ℕ) (i : ℕ) (h : i < length rs) where
   search-miss e = rw (drop-cons rs i 0) (rw (eq-eqb (getD rs i 0) 0 e, firstMissedFrom))
 
   pub search-meet : (getD rs i 0 ≡ 0 → ⊥) → firstMissedFrom (i + 1) (drop i rs) ≡ firstMissedFrom (i + 1 + 1) (drop (i + 1) rs)
-  search-meet n = rw (add-one, add-one, drop-cons rs i 0) (rw (ne-eqb (getD rs i 0) 0 n, firstMissedFrom))
+  search-meet n = rw (add-one i, add-one (suc i), drop-cons rs i 0) (rw (ne-eqb (getD rs i 0) 0 n, firstMissedFrom))

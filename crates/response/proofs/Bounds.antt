@@ -21,8 +21,9 @@ within-true [] [] e = record { sized = refl; low = λ k. omega arith; high = λ 
 within-true [] (x ∷ xs) e = absurd (false≢true e)
 within-true (t ∷ ts) [] e = absurd (false≢true e)
 within-true (t ∷ ts) (x ∷ xs) e =
-    let b = between-le (t .«period_min») x (t .«period_max») (and-left (between (t .«period_min») x (t .«period_max»)) (withinBounds ts xs) e) in
-    let w = within-true ts xs (and-right (between (t .«period_min») x (t .«period_max»)) (withinBounds ts xs) e) in
+    let inside = between (t .«period_min») x (t .«period_max») in
+    let b = between-le (t .«period_min») x (t .«period_max») (and-left inside (withinBounds ts xs) e) in
+    let w = within-true ts xs (and-right inside (withinBounds ts xs) e) in
     record {
       sized = ap suc (w .sized);
       low = at-most-cons (t .«period_min») x (periodMins ts) xs (b .0) (w .low);
@@ -50,7 +51,8 @@ pub dominates-within : {ts : List Task} {xs ys : List ℕ} → Within ts xs → 
 dominates-within {ts} {xs} {ys} v w e = dominates-at-most xs ys (v .sized ∙ sym (w .sized)) e
 
 -- one period raised, up to its maximum
-pub within-set : {ts : List Task} {xs : List ℕ} → Within ts xs → (i v : ℕ) → getD xs i 0 ≤ v → v ≤ getD (periodMaxs ts) i 0 → Within ts (set xs i v)
+pub within-set : {ts : List Task} {xs : List ℕ} → Within ts xs → (i v : ℕ)
+    → getD xs i 0 ≤ v → v ≤ getD (periodMaxs ts) i 0 → Within ts (set xs i v)
 within-set {ts} {xs} w i v p q = record {
   sized = simp length-set (w .sized);
   low = λ k. omega (arith, w .low k, at-most-set xs i p k);

@@ -5,47 +5,53 @@ use Prim.Native.Nat.{ℕ, zero, suc, _≤_, _<_}
 use native.Mathlib.Omega.{arith}
 use native.Mathlib.Nat.{mul-le-mul-left}
 use lib.ListN.{getD}
-use Rattle.response.specs.Analysis.{Timing, ceiling, ownDemand, interferenceAbove, demand}
+use Rattle.plan.specs.declared.record.Task.{Task}
+use Rattle.plan.specs.Tasks.{taskAt}
+use Rattle.response.specs.Analysis.{releases, ownDemand, interferenceAbove, demand}
 use Rattle.response.proofs.Ceiling.{ceiling-monotone, ceiling-antitone}
 
-module _ (T : Timing) where
-  above-monotone : (xs : List ℕ) (i s t : ℕ) → s ≤ t → interferenceAbove T xs i s ≤ interferenceAbove T xs i t
+module _ (ts : List Task) where
+  -- how often task k is released before t
+  abbrev pub releasesAt : List ℕ → ℕ → ℕ → ℕ
+  releasesAt xs k t = releases (taskAt ts k) (getD xs k 0) t
+
+  above-monotone : (xs : List ℕ) (i s t : ℕ) → s ≤ t → interferenceAbove ts xs i s ≤ interferenceAbove ts xs i t
   above-monotone xs zero s t h = omega arith
   above-monotone xs (suc j) s t h =
-      omega
-      (arith, above-monotone xs j s t h, mul-le-mul-left (getD (T .wcet) j 0) (ceiling-monotone s t (getD xs j 0) h))
+      omega (arith, above-monotone xs j s t h, mul-le-mul-left (taskAt ts j .wcet) (ceiling-monotone s t (getD xs j 0) h))
 
-  pub demand-monotone : (xs : List ℕ) (i s t : ℕ) → s ≤ t → demand T xs i s ≤ demand T xs i t
+  pub demand-monotone : (xs : List ℕ) (i s t : ℕ) → s ≤ t → demand ts xs i s ≤ demand ts xs i t
   unfolding demand
   demand-monotone xs i s t h = omega (arith, above-monotone xs i s t h)
 
-  above-less : (xs ys : List ℕ) (i t : ℕ) → ((k : ℕ) → k < i → ceiling t (getD ys k 0) ≤ ceiling t (getD xs k 0))
-      → interferenceAbove T ys i t ≤ interferenceAbove T xs i t
+  above-less : (xs ys : List ℕ) (i t : ℕ) → ((k : ℕ) → k < i → releasesAt ys k t ≤ releasesAt xs k t)
+      → interferenceAbove ts ys i t ≤ interferenceAbove ts xs i t
   above-less xs ys zero t h = omega arith
   above-less xs ys (suc j) t h =
       omega
-      (arith, mul-le-mul-left (getD (T .wcet) j 0) (h j (omega arith)), above-less xs ys j t (λ k l. h k (omega arith)))
+      (arith, mul-le-mul-left (taskAt ts j .wcet) (h j (omega arith)), above-less xs ys j t (λ k l. h k (omega arith)))
 
-  -- no task above runs more often
-  pub demand-less : (xs ys : List ℕ) (i t : ℕ) → ((k : ℕ) → k < i → ceiling t (getD ys k 0) ≤ ceiling t (getD xs k 0))
-      → demand T ys i t ≤ demand T xs i t
+  -- no task above is released more often
+  pub demand-less : (xs ys : List ℕ) (i t : ℕ) → ((k : ℕ) → k < i → releasesAt ys k t ≤ releasesAt xs k t)
+      → demand ts ys i t ≤ demand ts xs i t
   unfolding demand
   demand-less xs ys i t h = omega (arith, above-less xs ys i t h)
 
   pub demand-antitone : (xs ys : List ℕ) (i t : ℕ)
       → ((k : ℕ) → k < i → 1 ≤ getD xs k 0) → ((k : ℕ) → k < i → getD xs k 0 ≤ getD ys k 0)
-      → demand T ys i t ≤ demand T xs i t
+      → demand ts ys i t ≤ demand ts xs i t
   demand-antitone xs ys i t p h = demand-less xs ys i t (λ k l. ceiling-antitone t (getD xs k 0) (getD ys k 0) (p k l) (h k l))
 
-  pub demand-own : (xs : List ℕ) (i t : ℕ) → ownDemand T i ≤ demand T xs i t
+  pub demand-own : (xs : List ℕ) (i t : ℕ) → ownDemand (taskAt ts i) ≤ demand ts xs i t
   unfolding demand
   demand-own xs i t = omega arith
 
   above-same : (xs ys : List ℕ) (i t : ℕ) → ((k : ℕ) → k < i → getD xs k 0 ≡ getD ys k 0)
-      → interferenceAbove T xs i t ≡ interferenceAbove T ys i t
+      → interferenceAbove ts xs i t ≡ interferenceAbove ts ys i t
   above-same xs ys zero t h = refl
   above-same xs ys (suc j) t h = rw (h j (omega arith), above-same xs ys j t (λ k l. h k (omega arith)))
 
-  pub demand-same : (xs ys : List ℕ) (i t : ℕ) → ((k : ℕ) → k < i → getD xs k 0 ≡ getD ys k 0) → demand T xs i t ≡ demand T ys i t
+  pub demand-same : (xs ys : List ℕ) (i t : ℕ) → ((k : ℕ) → k < i → getD xs k 0 ≡ getD ys k 0)
+      → demand ts xs i t ≡ demand ts ys i t
   unfolding demand
   demand-same xs ys i t h = rw (above-same xs ys i t h)

@@ -9,7 +9,7 @@ use lib.Dec.{eqb, leb}
 use lib.ListN.{length, getD, set}
 use lib.Seq.{getD-set-same, getD-set-other, set-out, ext-getD}
 use borrow.Author.Tests.{leb-true, eqb-true, le-leb, lt-leb, eq-eqb}
-use Rattle.plan.specs.Names.{same}
+use Rattle.plan.specs.Lists.{same}
 use Rattle.plan.proofs.Tests.{le-or-lt, eq-or-ne, not-false, and-left, and-right, and-both, and-false}
 use Rattle.response.specs.Assignments.{dominates}
 
@@ -42,7 +42,10 @@ at-most-or [] ys e = inl (λ k. omega arith)
 at-most-or (x ∷ xs) [] e = let z : ⊥ = omega arith in absurd z
 at-most-or (x ∷ xs) (y ∷ ys) e = elim (le-or-lt x y) [
   | inr h ↦ inr (0, omega arith, h)
-  | inl h ↦ elim (at-most-or xs ys (omega arith)) [ inl a ↦ inl (at-most-cons x y xs ys h a) | inr w ↦ inr (suc (w .0), omega (arith, w .1), w .2) ]
+  | inl h ↦ elim (at-most-or xs ys (omega arith)) [
+    | inl a ↦ inl (at-most-cons x y xs ys h a)
+    | inr w ↦ inr (suc (w .0), omega (arith, w .1), w .2)
+  ]
 ]
 
 pub at-most-dominates : (xs ys : List ℕ) → AtMost xs ys → dominates ys xs ≡ true

@@ -26,7 +26,10 @@ module _ (x y : ℕ) (b : Bool) where
   first-gt h = rw (le-ltb x y (omega arith), ne-eqb x y (λ e. omega arith))
 
   pub first-true : ltb x y || (eqb x y && b) ≡ true → (x < y) ⊎ ((x ≡ y) × (b ≡ true))
-  first-true e = elim (or-cases (ltb x y) _ e) [ inl t ↦ inl (ltb-true x y t) | inr t ↦ inr (eqb-true x y (and-left (eqb x y) b t), and-right (eqb x y) b t) ]
+  first-true e = elim (or-cases (ltb x y) _ e) [
+    | inl t ↦ inl (ltb-true x y t)
+    | inr t ↦ inr (eqb-true x y (and-left (eqb x y) b t), and-right (eqb x y) b t)
+  ]
 
   pub first-false : ltb x y || (eqb x y && b) ≡ false → (y < x) ⊎ ((x ≡ y) × (b ≡ false))
   first-false e = elim (le-or-lt x y) [
@@ -46,7 +49,10 @@ before-trans (x ∷ xs) [] zs e f = absurd (false≢true e)
 before-trans (x ∷ xs) (y ∷ ys) [] e f = absurd (false≢true f)
 before-trans (x ∷ xs) (y ∷ ys) (z ∷ zs) e f = elim (first-true x y _ e) [
   | inl h ↦ elim (first-true y z _ f) [ inl k ↦ first-lt x z _ (omega arith) | inr k ↦ first-lt x z _ (omega (arith, k .0)) ]
-  | inr h ↦ elim (first-true y z _ f) [ inl k ↦ first-lt x z _ (omega (arith, h .0)) | inr k ↦ first-eq x z _ (h .0 ∙ k .0) ∙ before-trans xs ys zs (h .1) (k .1) ]
+  | inr h ↦ elim (first-true y z _ f) [
+    | inl k ↦ first-lt x z _ (omega (arith, h .0))
+    | inr k ↦ first-eq x z _ (h .0 ∙ k .0) ∙ before-trans xs ys zs (h .1) (k .1)
+  ]
 ]
 
 pub before-total : (xs ys : List ℕ) → before xs ys ≡ false → before ys xs ≡ false → xs ≡ ys
@@ -93,7 +99,10 @@ module _ (ws : List ℕ) where
 
     -- at or after, twice
     pub not-less-trans : (zs : List ℕ) → less ws ys xs ≡ false → less ws zs ys ≡ false → less ws zs xs ≡ false
-    not-less-trans zs e f = not-false (λ t. elim (bool (less ws xs ys)) [ inl u ↦ both (before-trans (keyed zs) (keyed xs) (keyed ys) t u) f | inr u ↦ both t (rw (less-total u e) f) ])
+    not-less-trans zs e f = not-false (λ t. elim (bool (less ws xs ys)) [
+      | inl u ↦ both (before-trans (keyed zs) (keyed xs) (keyed ys) t u) f
+      | inr u ↦ both t (rw (less-total u e) f)
+    ])
 
     -- at or after is the same or later
     pub same-or-later : less ws ys xs ≡ false → (xs ≡ ys) ⊎ (less ws xs ys ≡ true)

@@ -3,95 +3,115 @@ use mathlib.Core.Path.{_≡_, refl, ap, _∙_}
 use mathlib.Core.Bool.{true, false}
 use mathlib.Core.Logic.{inl, inr}
 use mathlib.Core.List.{List}
-use Prim.Native.Nat.{ℕ, zero, suc, _≤_, _<_, min}
+use Prim.Native.Nat.{ℕ, zero, suc, _≤_, _<_}
 use native.Mathlib.Omega.{arith}
 use lib.Dec.{ltb, leb}
-use lib.ListN.{getD, set}
+use lib.ListN.{length, getD, set}
 use lib.Seq.{getD-set-other}
 use borrow.Author.Tests.{leb-true, le-leb}
+use Rattle.plan.specs.declared.record.Task.{Task}
+use Rattle.plan.specs.Tasks.{taskAt, AllValid}
 use Rattle.plan.proofs.Tests.{eq-or-ne, both, not-false, and-left, and-right, and-both}
-use Rattle.response.specs.Analysis.{Timing, taskTotal, ownDemand, demand, deadline, climbFrom, responseTime, meets, firstMeet, schedulable}
+use Rattle.response.specs.Analysis.{ownDemand, demand, deadline, deadlineAt, climbFrom, responseUpTo, responseTime}
+use Rattle.response.specs.Analysis.{meets, firstMeet, schedulable}
 use Rattle.response.specs.Claims.{Covers}
 use Rattle.response.proofs.Demand.{demand-antitone, demand-same}
-use Rattle.response.proofs.Exactness.{response-exact}
+use Rattle.response.proofs.Exactness.{own-some, response-exact}
 
--- a step of the climb, by what it reads: the deadline, the demand, and what comes of climbing on
+-- a step of the climb, by what it reads: the limit, the demand, and what comes of climbing on
 turn : ℕ → ℕ → ℕ → ℕ → ℕ
 turn t d m r = elim (ltb d t) [ true ↦ 0 | false ↦ elim (leb m t) [ true ↦ t | false ↦ r ] ]
 
-turn-same : (t : ℕ) {d e m n r s : ℕ} → d ≡ e → m ≡ n → r ≡ s → turn t d m r ≡ turn t e n s
-turn-same t p q r = cc
+turn-same : (t d : ℕ) {m n r s : ℕ} → m ≡ n → r ≡ s → turn t d m r ≡ turn t d n s
+turn-same t d q r = cc
 
-module _ (T : Timing) where
-  -- only periods up to task i's own count
-  climb-same : (xs ys : List ℕ) (i : ℕ) → ((k : ℕ) → k ≤ i → getD xs k 0 ≡ getD ys k 0) → (left t : ℕ)
-      → climbFrom left T xs i t ≡ climbFrom left T ys i t
-  unfolding climbFrom turn
-  climb-same xs ys i h zero t = refl
-  climb-same xs ys i h (suc left) t =
-      let m = demand-same T xs ys i t (λ k l. h k (omega arith)) in
-      turn-same t (ap (λ (p : ℕ). min p (getD (T .deadlineCap) i 0)) (h i (omega arith))) m
-      (ap (climbFrom left T xs i) m ∙ climb-same xs ys i h left (demand T ys i t))
+module _ (ts : List Task) where
+  -- only periods up to task i's own count, and its own for its deadline
+  module _ (xs ys : List ℕ) (i : ℕ) where
+    climb-same : ((k : ℕ) → k < i → getD xs k 0 ≡ getD ys k 0) → (left limit t : ℕ)
+        → climbFrom left limit ts xs i t ≡ climbFrom left limit ts ys i t
+    unfolding climbFrom turn
+    climb-same h zero limit t = refl
+    climb-same h (suc left) limit t =
+        let m = demand-same ts xs ys i t h in
+        turn-same t limit m (ap (climbFrom left limit ts xs i) m ∙ climb-same h left limit (demand ts ys i t))
 
-  pub response-same : (xs ys : List ℕ) (i : ℕ) → ((k : ℕ) → k ≤ i → getD xs k 0 ≡ getD ys k 0)
-      → responseTime T xs i ≡ responseTime T ys i
-  unfolding responseTime
-  response-same xs ys i h =
-      rw (h i (omega arith)) (climb-same xs ys i h (suc (deadline T ys i)) (ownDemand T i))
+    pub response-same : ((k : ℕ) → k < i → getD xs k 0 ≡ getD ys k 0) → (limit : ℕ)
+        → responseUpTo limit ts xs i ≡ responseUpTo limit ts ys i
+    unfolding responseUpTo
+    response-same h limit = climb-same h (suc limit) limit (ownDemand (taskAt ts i))
 
-  pub meets-same : (xs ys : List ℕ) (i : ℕ) → ((k : ℕ) → k ≤ i → getD xs k 0 ≡ getD ys k 0) → meets T xs i ≡ meets T ys i
-  meets-same xs ys i h = ap (leb 1) (response-same xs ys i h)
+    pub meets-same : ((k : ℕ) → k ≤ i → getD xs k 0 ≡ getD ys k 0) → meets ts xs i ≡ meets ts ys i
+    meets-same h =
+        ap (leb 1)
+        (response-same (λ k l. h k (omega arith)) (deadlineAt ts xs i)
+        ∙ ap (λ (p : ℕ). responseUpTo (deadline (taskAt ts i) p) ts ys i) (h i (omega arith)))
 
-  pub meets-set : (xs : List ℕ) (i j v : ℕ) → i < j → meets T (set xs j v) i ≡ meets T xs i
-  meets-set xs i j v l =
-      meets-same (set xs j v) xs i (λ k h. getD-set-other xs j k v 0 (λ e. let z : ⊥ = omega arith in z))
+    pub covers-up : (t : ℕ) → ((k : ℕ) → k < i → 1 ≤ getD xs k 0) → ((k : ℕ) → k ≤ i → getD xs k 0 ≤ getD ys k 0)
+        → Covers (deadlineAt ts xs i) ts xs i t → Covers (deadlineAt ts ys i) ts ys i t
+    covers-up t p h c =
+        record {
+          some = c .some;
+          early = omega (arith, c .early, h i (omega arith));
+          covers = omega (arith, c .covers, demand-antitone ts xs ys i t p (λ k l. h k (omega arith)));
+        }
 
-  pub covers-up : (xs ys : List ℕ) (i t : ℕ)
-      → ((k : ℕ) → k < i → 1 ≤ getD xs k 0) → ((k : ℕ) → k ≤ i → getD xs k 0 ≤ getD ys k 0) → Covers T xs i t → Covers T ys i t
-  covers-up xs ys i t p h c =
-      record {
-        some = c .some;
-        early = omega (arith, c .early, h i (omega arith));
-        covers = omega (arith, c .covers, demand-antitone T xs ys i t p (λ k l. h k (omega arith)));
-      }
+  pub meets-set : (xs : List ℕ) (i j v : ℕ) → i < j → meets ts (set xs j v) i ≡ meets ts xs i
+  meets-set xs i j v l = meets-same (set xs j v) xs i (λ k h. getD-set-other xs j k v 0 (λ e. let z : ⊥ = omega arith in z))
 
-  pub meets-up : (xs ys : List ℕ) (i : ℕ) → 1 ≤ ownDemand T i
-      → ((k : ℕ) → k < i → 1 ≤ getD xs k 0) → ((k : ℕ) → k ≤ i → getD xs k 0 ≤ getD ys k 0)
-      → meets T xs i ≡ true → meets T ys i ≡ true
-  meets-up xs ys i w p h m =
-      let c = response-exact T xs i w .covers (leb-true 1 (responseTime T xs i) m) in
-      let l = response-exact T ys i w .least (responseTime T xs i) (covers-up xs ys i (responseTime T xs i) p h c) in
-      le-leb 1 (responseTime T ys i) (l .0)
+  -- a task with work to do meets its deadline exactly where some t covers
+  module _ (i : ℕ) (w : 1 ≤ ownDemand (taskAt ts i)) (xs : List ℕ) where
+    pub meets-covers : meets ts xs i ≡ true → Covers (deadlineAt ts xs i) ts xs i (responseTime ts xs i)
+    meets-covers m = response-exact (deadlineAt ts xs i) ts xs i w .covers (leb-true 1 (responseTime ts xs i) m)
+
+    pub covers-meets : {t : ℕ} → Covers (deadlineAt ts xs i) ts xs i t → meets ts xs i ≡ true
+    covers-meets {t} c = le-leb 1 (responseTime ts xs i) (response-exact (deadlineAt ts xs i) ts xs i w .least t c .0)
+
+    pub meets-up : (ys : List ℕ) → ((k : ℕ) → k < i → 1 ≤ getD xs k 0) → ((k : ℕ) → k ≤ i → getD xs k 0 ≤ getD ys k 0)
+        → meets ts xs i ≡ true → meets ts ys i ≡ true
+    meets-up ys p h m =
+        le-leb 1 (responseTime ts ys i)
+        (response-exact (deadlineAt ts ys i) ts ys i w .least _ (covers-up xs ys i (responseTime ts xs i) p h (meets-covers m)) .0)
 
   -- schedulable: every task meets its deadline
-  pub first-all : (xs : List ℕ) (n : ℕ) → firstMeet T xs n ≡ true → (i : ℕ) → i < n → meets T xs i ≡ true
-  first-all xs zero e i h = let z : ⊥ = omega arith in absurd z
-  first-all xs (suc n) e i h =
-      elim (eq-or-ne i n) [
-        | inl z ↦ rw z (and-right (firstMeet T xs n) (meets T xs n) e)
-        | inr z ↦ first-all xs n (and-left (firstMeet T xs n) (meets T xs n) e) i (omega arith)
-      ]
+  module _ (xs : List ℕ) where
+    pub first-all : (n : ℕ) → firstMeet ts xs n ≡ true → (i : ℕ) → i < n → meets ts xs i ≡ true
+    first-all zero e i h = let z : ⊥ = omega arith in absurd z
+    first-all (suc n) e i h =
+        elim (eq-or-ne i n) [
+          | inl z ↦ rw z (and-right (firstMeet ts xs n) (meets ts xs n) e)
+          | inr z ↦ first-all n (and-left (firstMeet ts xs n) (meets ts xs n) e) i (omega arith)
+        ]
 
-  all-first : (xs : List ℕ) (n : ℕ) → ((i : ℕ) → i < n → meets T xs i ≡ true) → firstMeet T xs n ≡ true
-  all-first xs zero h = refl
-  all-first xs (suc n) h = and-both (all-first xs n (λ i l. h i (omega arith))) (h n (omega arith))
+    all-first : (n : ℕ) → ((i : ℕ) → i < n → meets ts xs i ≡ true) → firstMeet ts xs n ≡ true
+    all-first zero h = refl
+    all-first (suc n) h = and-both (all-first n (λ i l. h i (omega arith))) (h n (omega arith))
 
-  pub schedulable-all : (xs : List ℕ) → schedulable T xs ≡ true → (i : ℕ) → i < taskTotal T → meets T xs i ≡ true
-  unfolding schedulable
-  schedulable-all xs e = first-all xs (taskTotal T) e
+    pub schedulable-all : schedulable ts xs ≡ true → (i : ℕ) → i < length ts → meets ts xs i ≡ true
+    unfolding schedulable
+    schedulable-all e = first-all (length ts) e
 
-  pub all-schedulable : (xs : List ℕ) → ((i : ℕ) → i < taskTotal T → meets T xs i ≡ true) → schedulable T xs ≡ true
-  unfolding schedulable
-  all-schedulable xs h = all-first xs (taskTotal T) h
+    pub all-schedulable : ((i : ℕ) → i < length ts → meets ts xs i ≡ true) → schedulable ts xs ≡ true
+    unfolding schedulable
+    all-schedulable h = all-first (length ts) h
 
-  pub schedulable-none : (xs : List ℕ) (i : ℕ) → i < taskTotal T → meets T xs i ≡ false → schedulable T xs ≡ false
-  schedulable-none xs i l m = not-false (λ e. both (schedulable-all xs e i l) m)
+    pub schedulable-none : (i : ℕ) → i < length ts → meets ts xs i ≡ false → schedulable ts xs ≡ false
+    schedulable-none i l m = not-false (λ e. both (schedulable-all e i l) m)
 
-  pub sustainable : (xs ys : List ℕ)
-      → ((k : ℕ) → k < taskTotal T → 1 ≤ getD (T .wcet) k 0)
-      → ((k : ℕ) → k < taskTotal T → 1 ≤ getD xs k 0)
-      → ((k : ℕ) → k < taskTotal T → getD xs k 0 ≤ getD ys k 0)
-      → schedulable T xs ≡ true → schedulable T ys ≡ true
-  sustainable xs ys w p h e =
-      all-schedulable ys
-      (λ i l. meets-up xs ys i (w i l) (λ k b. p k (omega arith)) (λ k b. h k (omega arith)) (schedulable-all xs e i l))
+  -- of valid tasks: for each of them some t covers, and raising a period keeps it so
+  module _ (v : AllValid ts) where
+    pub schedulable-covers : (xs : List ℕ) → schedulable ts xs ≡ true
+        → (i : ℕ) → i < length ts → (t : ℕ) × Covers (deadlineAt ts xs i) ts xs i t
+    schedulable-covers xs e i l = (responseTime ts xs i, meets-covers i (own-some ts v i l) xs (schedulable-all xs e i l))
+
+    pub covers-schedulable : (xs : List ℕ)
+        → ((i : ℕ) → i < length ts → (t : ℕ) × Covers (deadlineAt ts xs i) ts xs i t) → schedulable ts xs ≡ true
+    covers-schedulable xs h = all-schedulable xs (λ i l. covers-meets i (own-some ts v i l) xs (h i l .1))
+
+    pub sustainable : (xs ys : List ℕ)
+        → ((k : ℕ) → k < length ts → 1 ≤ getD xs k 0)
+        → ((k : ℕ) → k < length ts → getD xs k 0 ≤ getD ys k 0)
+        → schedulable ts xs ≡ true → schedulable ts ys ≡ true
+    sustainable xs ys p h e =
+        all-schedulable ys
+        (λ i l. meets-up i (own-some ts v i l) xs ys (λ k b. p k (omega arith)) (λ k b. h k (omega arith)) (schedulable-all xs e i l))

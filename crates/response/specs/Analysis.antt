@@ -5,79 +5,76 @@ use Prim.Native.Nat.{ℕ, zero, suc, _+_, _*_, _/_, min}
 use lib.Dec.{eqb, ltb, leb}
 use lib.ListN.{length, getD}
 use Rattle.plan.specs.declared.record.Task.{Task}
-use Rattle.plan.specs.Tasks.{wcets, deadlineCaps}
+use Rattle.plan.specs.Lists.{tabulate}
+use Rattle.plan.specs.Tasks.{taskAt}
 
--- what the test reads of the tasks, as columns
-pub record Timing : Type 0 where
-  pub wcet : List ℕ
-  pub deadlineCap : List ℕ
-
-abbrev pub timing : List ℕ → List ℕ → Timing
-timing wcet caps = record { wcet = wcet; deadlineCap = caps }
-
-abbrev pub timingOf : List Task → Timing
-timingOf ts = timing (wcets ts) (deadlineCaps ts)
-
-abbrev pub taskTotal : Timing → ℕ
-taskTotal T = length (T .wcet)
-
--- "(t over its period, rounded up)"
+-- "(.. rounded up)"
 abbrev pub ceiling : ℕ → ℕ → ℕ
 ceiling a zero = 0
 ceiling a (suc p) = (a + p) / suc p
 
 -- "its own work"
-abbrev pub ownDemand : Timing → ℕ → ℕ
-ownDemand T i = getD (T .wcet) i 0
+abbrev pub ownDemand : Task → ℕ
+ownDemand task = task .wcet
 
--- "that job's work times (t over its period, rounded up)": the interference of task j by time t
-abbrev pub interference : Timing → List ℕ → ℕ → ℕ → ℕ
-interference T xs j t = getD (T .wcet) j 0 * ceiling t (getD xs j 0)
+-- "(t over its period, rounded up)": how often a task with a period is released before time t
+abbrev pub releases : Task → ℕ → ℕ → ℕ
+releases task period t = ceiling t period
 
--- "for each job above it": the tasks above task i
-abbrev pub interferenceAbove : Timing → List ℕ → ℕ → ℕ → ℕ
-interferenceAbove T xs zero t = 0
-interferenceAbove T xs (suc j) t = interferenceAbove T xs j t + interference T xs j t
-
-unfoldable pub demand : Timing → List ℕ → ℕ → ℕ → ℕ
-demand T xs i t = ownDemand T i + interferenceAbove T xs i t
+-- "that job's work times (t over its period, rounded up)"
+abbrev pub interference : Task → ℕ → ℕ → ℕ
+interference task period t = task .wcet * releases task period t
 
 -- "The deadline of job i at x is the smaller of x_i and cap_i."
-abbrev pub deadline : Timing → List ℕ → ℕ → ℕ
-deadline T xs i = min (getD xs i 0) (getD (T .deadlineCap) i 0)
+abbrev pub deadline : Task → ℕ → ℕ
+deadline task period = min period (task .«deadline_cap»)
 
--- "The search for t climbs from the job's own work and stops at the first t that covers its own demand, or past the deadline": 0 then
-unfoldable pub climbFrom : ℕ → Timing → List ℕ → ℕ → ℕ → ℕ
-climbFrom zero T xs i t = 0
-climbFrom (suc left) T xs i t =
-    elim (ltb (deadline T xs i) t) [
+-- "for each job above it": the tasks above task i
+abbrev pub interferenceAbove : List Task → List ℕ → ℕ → ℕ → ℕ
+interferenceAbove ts xs zero t = 0
+interferenceAbove ts xs (suc j) t = interferenceAbove ts xs j t + interference (taskAt ts j) (getD xs j 0) t
+
+unfoldable pub demand : List Task → List ℕ → ℕ → ℕ → ℕ
+demand ts xs i t = ownDemand (taskAt ts i) + interferenceAbove ts xs i t
+
+abbrev pub deadlineAt : List Task → List ℕ → ℕ → ℕ
+deadlineAt ts xs i = deadline (taskAt ts i) (getD xs i 0)
+
+-- "The search for t climbs from the job's own work and stops at the first t that covers its own demand, or past the
+-- deadline": up to a limit; 0 past it
+unfoldable pub climbFrom : ℕ → ℕ → List Task → List ℕ → ℕ → ℕ → ℕ
+climbFrom zero limit ts xs i t = 0
+climbFrom (suc left) limit ts xs i t =
+    elim (ltb limit t) [
       | true ↦ 0
-      | false ↦ elim (leb (demand T xs i t) t) [ true ↦ t | false ↦ climbFrom left T xs i (demand T xs i t) ]
+      | false ↦ elim (leb (demand ts xs i t) t) [
+        | true ↦ t
+        | false ↦ climbFrom left limit ts xs i (demand ts xs i t)
+      ]
     ]
 
+unfoldable pub responseUpTo : ℕ → List Task → List ℕ → ℕ → ℕ
+responseUpTo limit ts xs i = climbFrom (suc limit) limit ts xs i (ownDemand (taskAt ts i))
+
 -- "Its response time is the least such t"; 0 for a task that misses its deadline
-unfoldable pub responseTime : Timing → List ℕ → ℕ → ℕ
-responseTime T xs i = climbFrom (suc (deadline T xs i)) T xs i (ownDemand T i)
+abbrev pub responseTime : List Task → List ℕ → ℕ → ℕ
+responseTime ts xs i = responseUpTo (deadlineAt ts xs i) ts xs i
 
 -- "Job i is on time at x"
-abbrev pub meets : Timing → List ℕ → ℕ → Bool
-meets T xs i = leb 1 (responseTime T xs i)
+abbrev pub meets : List Task → List ℕ → ℕ → Bool
+meets ts xs i = leb 1 (responseTime ts xs i)
 
 -- "A point is on time if every job is."
-abbrev pub firstMeet : Timing → List ℕ → ℕ → Bool
-firstMeet T xs zero = true
-firstMeet T xs (suc i) = firstMeet T xs i && meets T xs i
+abbrev pub firstMeet : List Task → List ℕ → ℕ → Bool
+firstMeet ts xs zero = true
+firstMeet ts xs (suc i) = firstMeet ts xs i && meets ts xs i
 
-unfoldable pub schedulable : Timing → List ℕ → Bool
-schedulable T xs = firstMeet T xs (taskTotal T)
+unfoldable pub schedulable : List Task → List ℕ → Bool
+schedulable ts xs = firstMeet ts xs (length ts)
 
 -- "each job's response time, 0 for a late job"
-abbrev pub responseTimesFrom : Timing → List ℕ → ℕ → ℕ → List ℕ
-responseTimesFrom T xs zero i = []
-responseTimesFrom T xs (suc left) i = responseTime T xs i ∷ responseTimesFrom T xs left (suc i)
-
-unfoldable pub responseTimes : Timing → List ℕ → List ℕ
-responseTimes T xs = responseTimesFrom T xs (taskTotal T) 0
+unfoldable pub responseTimes : List Task → List ℕ → List ℕ
+responseTimes ts xs = tabulate (responseTime ts xs) (length ts) 0
 
 -- "the count of late jobs and the first of them (0 if none)", counted from 1
 abbrev pub missedCount : List ℕ → ℕ

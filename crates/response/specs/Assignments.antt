@@ -12,7 +12,8 @@ cost [] xs = 0
 cost (w ∷ ws) [] = 0
 cost (w ∷ ws) (x ∷ xs) = w * x + cost ws xs
 
--- "by first period, then second, and so on"; a list that ends comes before a longer one, so that the order is total on all lists
+-- "by first period, then second, and so on"; a list that ends comes before a longer one, so that the order is total on
+-- all lists
 abbrev pub before : List ℕ → List ℕ → Bool
 before [] [] = false
 before [] (y ∷ ys) = true

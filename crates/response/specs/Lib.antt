@@ -2,5 +2,5 @@
 pub mod Analysis
 pub mod Assignments
 pub mod Claims
-pub mod Inner
 pub mod Promises
+pub mod Inner

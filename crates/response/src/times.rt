@@ -1,59 +1,88 @@
 ghost use mathlib.Core.Path.{_≡_};
 ghost use Prim.Native.Nat.{_≤_};
-ghost use lib.Dec.{leb};
 ghost use lib.ListN.{length};
-ghost use Rattle.plan.specs.Faults.{faultIf, firstFrom};
 ghost use Rattle.plan.specs.Tasks.{maxTasks};
-ghost use Rattle.response.specs.Analysis.{timing, responseTimes, missedCount, firstMissed};
-ghost use Rattle.response.specs.Inner.{Limits, refusal};
-ghost use Rattle.response.specs.Promises.{boundFault, Analyses};
+ghost use Rattle.plan.specs.Table.{tasksIn};
+ghost use Rattle.plan.specs.Files.{fileFault, tasksOf};
+ghost use Rattle.plan.specs.Promises.{planTasks, Usable};
+ghost use Rattle.response.specs.Analysis.{responseTimes, missedCount, firstMissed};
+ghost use Rattle.response.specs.Inner.{Limits};
+ghost use Rattle.response.specs.Promises.{boundsFault, periodsFault, refusedTimes, Analyses};
 use super::climb::response_time;
+use plan::Fault;
+use plan::Loaded;
+use plan::Plan;
 
-// TIMES's answer: the refusal's number and place, 0 and 0 where there is none, how many tasks miss their deadlines, and the first
-// of them, counted from 1.
+// TIMES's answer: the refusal, how many tasks miss their deadlines, and the first of them, counted from 1.
 pub struct Times {
-    pub number: u32,
-    pub place: u32,
+    pub fault: Fault,
     pub missed: u32,
     pub first: u32,
 }
 
 impl Times {
-    fn refused(number: u32, place: u32) -> Times
-        ensures { λ r. ⌜ r ≡ refusal number place ⌝ }
+    fn refused(fault: Fault) -> Times
+        ensures { λ r. ⌜ r ≡ refusedTimes fault ⌝ }
     {
         Times {
-            number,
-            place,
+            fault,
             missed: 0,
             first: 0,
         }
     }
 }
 
-// Rule 23: the first task whose period is outside its bounds, counted from 1, or 0.
-fn out_of_bounds(period_min: &[u32], period_max: &[u32], periods: &[u32]) -> u32
-    requires { ⌜ (length (now «period_min») ≡ length (now periods)) × ((length (now «period_max») ≡ length (now periods)) × (length (now periods) ≤ maxTasks)) ⌝ }
-    ensures { λ r. ⌜ firstFrom (boundFault (now («period_min» .entry)) (now («period_max» .entry)) (now (periods .entry))) (length (now (periods .entry))) 0 ≡ faultIf (leb 1 r) 23 r ⌝ }
+// Rule 23: the first task whose period is outside its bounds.
+fn bounds_fault(tasks: &[u32], periods: &[u32]) -> Fault
+    requires { ⌜ (length (now periods) ≡ length (tasksIn (now tasks))) × (length (now periods) ≤ maxTasks) ⌝ }
+    ensures { λ r. ⌜ r ≡ boundsFault (tasksIn (now (tasks .entry))) (now (periods .entry)) ⌝ }
 {
     let mut i: usize = 0;
     while i < periods.len() {
-        if !plan::between(period_min[i], periods[i], period_max[i]) {
-            return (i + 1) as u32;
+        if !plan::between(
+            plan::period_min(tasks, i),
+            periods[i],
+            plan::period_max(tasks, i),
+        ) {
+            return Fault {
+                number: 23,
+                place: (i + 1) as u32,
+            };
         }
         i += 1;
     }
-    0
+    Fault::none()
+}
+
+// Rules 21 to 23, of periods and a space of so many numbers.
+pub fn periods_fault(tasks: &[u32], periods: &[u32], space: usize) -> Fault
+    requires { ⌜ length (tasksIn (now tasks)) ≤ maxTasks ⌝ }
+    ensures { λ r. ⌜ r ≡ periodsFault (tasksIn (now (tasks .entry))) (now (periods .entry)) space ⌝ }
+{
+    let n = plan::task_count(tasks);
+    if periods.len() != n {
+        return Fault {
+            number: 21,
+            place: 0,
+        };
+    }
+    if space != n {
+        return Fault {
+            number: 22,
+            place: 0,
+        };
+    }
+    bounds_fault(tasks, periods)
 }
 
 // Writes each task's response time, 0 for one that misses its deadline.
-fn analyse(wcet: &[u32], deadline_cap: &[u32], periods: &[u32], times: &mut [u32])
-    requires { ⌜ (Limits (now wcet) (now periods)) × ((length (now «deadline_cap») ≡ length (now wcet)) × (length (now times) ≡ length (now wcet))) ⌝ }
-    ensures { λ r. ⌜ now (times .exit) ≡ responseTimes (timing (now (wcet .entry)) (now («deadline_cap» .entry))) (now (periods .entry)) ⌝ }
+fn analyse(tasks: &[u32], periods: &[u32], times: &mut [u32])
+    requires { ⌜ Limits (tasksIn (now tasks)) (now periods) × (length (now times) ≡ length (now periods)) ⌝ }
+    ensures { λ _. ⌜ now (times .exit) ≡ responseTimes (tasksIn (now (tasks .entry))) (now (periods .entry)) ⌝ }
 {
     let mut i: usize = 0;
     while i < times.len() {
-        times[i] = response_time(wcet, deadline_cap, periods, i);
+        times[i] = response_time(tasks, periods, i);
         i += 1;
     }
 }
@@ -89,34 +118,34 @@ fn first_missed(times: &[u32]) -> u32
     0
 }
 
-// TIMES: the response times of a file's tasks at given periods, or a refusal that leaves the space as it was.
-pub fn response_times(file: &[u8], periods: &[u32], times: &mut [u32]) -> Times
-    ensures { λ r. ⌜ Analyses (now (file .entry)) (now (periods .entry)) (now (times .entry)) (now (times .exit)) r ⌝ }
+// TIMES of a plan that was loaded.
+pub fn times_of(loaded: Loaded, periods: &[u32], times: &mut [u32]) -> Times
+    requires { ⌜ Usable loaded ⌝ }
+    ensures { λ r. ⌜ Analyses (loaded .fault) (planTasks (loaded .plan))
+        (now (periods .entry)) (now (times .entry)) (now (times .exit)) r ⌝ }
 {
-    let loaded = plan::load_plan(file);
-    if loaded.number != 0 {
-        return Times::refused(loaded.number, loaded.place);
+    let refusal = loaded.fault;
+    if refusal.number != 0 {
+        return Times::refused(refusal);
     }
-    let n = loaded.plan.tasks;
-    if periods.len() != n {
-        return Times::refused(21, 0);
+    let table = loaded.plan.table;
+    let size = Plan::ROW_FIELDS * loaded.plan.tasks;
+    let fault = periods_fault(&table[..size], periods, times.len());
+    if fault.number != 0 {
+        return Times::refused(fault);
     }
-    if times.len() != n {
-        return Times::refused(22, 0);
-    }
-    let period_min = loaded.plan.period_min;
-    let period_max = loaded.plan.period_max;
-    let outside = out_of_bounds(&period_min[..n], &period_max[..n], periods);
-    if outside != 0 {
-        return Times::refused(23, outside);
-    }
-    let wcet = loaded.plan.wcet;
-    let deadline_cap = loaded.plan.deadline_cap;
-    analyse(&wcet[..n], &deadline_cap[..n], periods, times);
+    analyse(&table[..size], periods, times);
     Times {
-        number: 0,
-        place: 0,
+        fault: Fault::none(),
         missed: missed_count(times),
         first: first_missed(times),
     }
+}
+
+// TIMES: the response times of a file's tasks at given periods, or a refusal that leaves the space as it was.
+pub fn response_times(file: &[u8], periods: &[u32], times: &mut [u32]) -> Times
+    ensures { λ r. ⌜ Analyses (fileFault (now (file .entry))) (tasksOf (now (file .entry)))
+        (now (periods .entry)) (now (times .entry)) (now (times .exit)) r ⌝ }
+{
+    times_of(plan::load_plan(file), periods, times)
 }

@@ -1,33 +1,27 @@
-use native.Mathlib.Omega.{arith}
-use mathlib.Core.Path.{_≡_, sym, _∙_}
-use mathlib.Core.List.{List}
-use Prim.Native.Nat.{ℕ}
 use borrow.Author.Needs.{needs}
-use Rattle.desk.proofs.Bytes.{encoded-carried}
-use Rattle.desk.specs.Block.{Carried, encoded}
-use Rattle.desk.specs.Inner.{carriedBy}
-use lib.Seq.{take-all}
+use native.Mathlib.Omega.{arith}
+use Rattle.desk.proofs.Bytes.{block-written}
 use Rattle.desk.proofs.block.write_block.Statement.{statement}
 use Rattle.desk.proofs.block.write_block.Tie as tie
 
-put-answer-requires : tie.Need-put-answer-requires
-put-answer-requires c κs = search needs
-
-put-words-requires : tie.Need-put-words-requires
-put-words-requires c κs = search needs
-
-same-length : tie.Need-same-length
-same-length c = search needs
-
 returns : tie.Need-returns
 returns c =
-    let d = c .before .before .before .before .before .before in
-    let s = d .before .before .before .before in
-    let g = s .good .1 .0 .1 .1 in
-    let b : List ℕ = c .before .before .put-words .last .0 in
-    let a : Carried = carriedBy (s .args .answer) (s .args .tasks) (s .args .periods .now) in
-    let w : b ≡ encoded a = sym (take-all 100 b (omega arith)) ∙ (rw (s .pre .1) at (c .before .before .put-words .ensures)) ∙ d .put-answer .ensures (s .args .periods .now) in
-    record { bytes = w; reads = rw w (encoded-carried a (record { number = g .0 .1; place = g .1 .0 .1; cost = g .1 .1 .0 .1; rounds = g .1 .1 .1 .0 .1; bound = g .1 .1 .1 .1 .0 .1; tasks = omega arith; narrow = λ k. omega (arith, d .before .before .shared-slice-known .given k); sixteen = s .pre .1 })) }
+    let after-words = c .before .before in
+    let after-answer = after-words .before .before .before .before in
+    let s = after-answer .before .before .before .before in
+    let good = s .good .1 .0 in
+    rw (after-words .put-words .ensures, after-answer .put-answer .ensures)
+    (block-written _ _ (s .pre .0)
+    (record {
+      number = omega arith;
+      place = omega arith;
+      cost = omega arith;
+      rounds = omega arith;
+      bound = omega arith;
+      tasks = omega arith;
+      periods = λ k. omega (arith, after-answer .before .before .shared-slice-known .given k);
+      sixteen = s .pre .1;
+    }))
 
 pub write-block-spec : {M : Type 1} → statement M
-write-block-spec = tie.close (tie.spec put-answer-requires put-words-requires same-length returns)
+write-block-spec = tie.close (tie.spec (λ c κs. search needs) (λ c κs. search needs) (λ c. search needs) returns)

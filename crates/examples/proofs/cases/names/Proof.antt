@@ -10,4 +10,7 @@ abbrev μ-loop : tie.MeasureT-loop
 μ-loop file tasks last k₀ k = 18 - k
 
 pub names-spec : {M : Type 1} → statement M
-names-spec = tie.close (tie.spec Inv-loop μ-loop (λ c κs. search needs) (λ c. search needs) (λ c κs. search needs) (λ c. search needs) (λ c. search needs) (λ c. search needs) (λ c. search needs))
+names-spec =
+    tie.close
+    (tie.spec Inv-loop μ-loop (λ c κs. search needs) (λ c. search needs) (λ c κs. search needs) (λ c. search needs)
+    (λ c. search needs) (λ c. search needs) (λ c. search needs))

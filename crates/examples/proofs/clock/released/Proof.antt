@@ -10,4 +10,7 @@ abbrev μ-loop : tie.MeasureT-loop
 μ-loop rows periods task now work₀ j₀ work j = task - j
 
 pub released-spec : {M : Type 1} → statement M
-released-spec = tie.close (tie.spec Inv-loop μ-loop (λ c. search needs) (λ c κs. search needs) (λ c κs. search needs) (λ c κs. search needs) (λ c κs. search needs) (λ c. search needs) (λ c. search needs) (λ c. search needs) (λ c. search needs))
+released-spec =
+    tie.close
+    (tie.spec Inv-loop μ-loop (λ c. search needs) (λ c κs. search needs) (λ c κs. search needs) (λ c κs. search needs)
+    (λ c κs. search needs) (λ c. search needs) (λ c. search needs) (λ c. search needs) (λ c. search needs))

@@ -12,4 +12,7 @@ abbrev μ-loop : tie.MeasureT-loop
 μ-loop sequence rows₀ k₀ rows k = 15 - k
 
 pub draw-plan-spec : {M : Type 1} → statement M
-draw-plan-spec = tie.close (tie.spec Inv-loop μ-loop (λ c. search needs) (λ c κs. search needs) (λ c. search needs) (λ c. search needs) (λ c. search needs) (λ c. search needs) (λ c. search needs) (λ c. search needs))
+draw-plan-spec =
+    tie.close
+    (tie.spec Inv-loop μ-loop (λ c. search needs) (λ c κs. search needs) (λ c. search needs) (λ c. search needs)
+    (λ c. search needs) (λ c. search needs) (λ c. search needs) (λ c. search needs))

@@ -12,4 +12,7 @@ abbrev μ-loop : tie.MeasureT-loop
 μ-loop seed list₀ last₀ k₀ list last k = 30 - k
 
 pub sequence-spec : {M : Type 1} → statement M
-sequence-spec = tie.close (tie.spec Inv-loop μ-loop (λ c. search needs) (λ c κs. search needs) (λ c. search needs) (λ c. search needs) (λ c. search needs) (λ c. search needs) (λ c. search needs) (λ c. search needs))
+sequence-spec =
+    tie.close
+    (tie.spec Inv-loop μ-loop (λ c. search needs) (λ c κs. search needs) (λ c. search needs) (λ c. search needs)
+    (λ c. search needs) (λ c. search needs) (λ c. search needs) (λ c. search needs))

@@ -11,4 +11,7 @@ abbrev μ-loop : tie.MeasureT-loop
 μ-loop list with i₀ i = length with - i
 
 pub begins-spec : {M : Type 1} → statement M
-begins-spec = tie.close (tie.spec Inv-loop μ-loop (λ c. search needs) (λ c κs. search needs) (λ c κs. search needs) (λ c. search needs) (λ c. search needs) (λ c. search needs) (λ c. search needs) (λ c. search needs))
+begins-spec =
+    tie.close
+    (tie.spec Inv-loop μ-loop (λ c. search needs) (λ c κs. search needs) (λ c κs. search needs) (λ c. search needs)
+    (λ c. search needs) (λ c. search needs) (λ c. search needs) (λ c. search needs))

@@ -12,4 +12,7 @@ abbrev μ-loop : tie.MeasureT-loop
 μ-loop counts₀ seed₀ k₀ counts seed k = 8000 - k
 
 pub compare-plans-spec : {M : Type 1} → statement M
-compare-plans-spec = tie.close (tie.spec Inv-loop μ-loop (λ c. search needs) (λ c κs. search needs) (λ c κs. search needs) (λ c κs. search needs) (λ c. search needs) (λ c. search needs) (λ c. search needs) (λ c. search needs) (λ c. search needs))
+compare-plans-spec =
+    tie.close
+    (tie.spec Inv-loop μ-loop (λ c. search needs) (λ c κs. search needs) (λ c κs. search needs) (λ c κs. search needs)
+    (λ c. search needs) (λ c. search needs) (λ c. search needs) (λ c. search needs) (λ c. search needs))

@@ -10,4 +10,7 @@ abbrev μ-loop : tie.MeasureT-loop
 μ-loop rows best₀ least₀ k₀ best least k = 512 - k
 
 pub enumerate-spec : {M : Type 1} → statement M
-enumerate-spec = tie.close (tie.spec Inv-loop μ-loop (λ c. search needs) (λ c κs. search needs) (λ c. search needs) (λ c. search needs) (λ c. search needs) (λ c. search needs))
+enumerate-spec =
+    tie.close
+    (tie.spec Inv-loop μ-loop (λ c. search needs) (λ c κs. search needs) (λ c. search needs) (λ c. search needs)
+    (λ c. search needs) (λ c. search needs))

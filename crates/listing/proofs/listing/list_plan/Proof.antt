@@ -1,55 +1,28 @@
+use borrow.Author.Needs.{needs}
 use native.Mathlib.Omega.{arith}
 use mathlib.Core.Path.{sym, _∙_}
-use Prim.Native.Nat.{_≤_}
 use lib.Seq.{length-take-le}
-use borrow.Author.Needs.{needs}
-use Rattle.plan.proofs.Accepted.{read-few}
+use Rattle.plan.proofs.Loading.{loaded-count}
 use Rattle.listing.proofs.listing.list_plan.Statement.{statement}
 use Rattle.listing.proofs.listing.list_plan.Tie as tie
 
-few : (c : tie.After-read-plan) → c .read-plan .result .tasks ≤ 16
-few c = rw (c .read-plan .ensures .tasks) (read-few _)
-
-read-plan-requires : tie.Need-read-plan-requires
-read-plan-requires c κs = search needs
-
-cast-n : tie.Need-cast-n
-cast-n c = search needs
-
-array-borrow-prefix-periods : tie.Need-array-borrow-prefix-periods
-array-borrow-prefix-periods c = few (c .before .before)
+abbrev loaded : tie.After-periods → tie.After-load-plan
+loaded c = c .before .before
 
 slice-aggregate-list-with : tie.Need-slice-aggregate-list-with
-slice-aggregate-list-with c = sym (length-take-le _ _ (few (c .before .before .before)))
-
-array-borrow-prefix-times : tie.Need-array-borrow-prefix-times
-array-borrow-prefix-times c = few (c .before .before .before)
+slice-aggregate-list-with c = sym (length-take-le _ _ (loaded c .load-plan .ensures .1 .few))
 
 slice-aggregate-list-with-2 : tie.Need-slice-aggregate-list-with-2
-slice-aggregate-list-with-2 c = sym (length-take-le _ _ (few (c .before .before .before .before)))
+slice-aggregate-list-with-2 c = slice-aggregate-list-with (c .before)
 
 list-with-requires : tie.Need-list-with-requires
 list-with-requires c κs =
-    let d = c .before .before .before .before .before in
-    let n = length-take-le _ _ (few d) ∙ d .read-plan .ensures .tasks in
-    (n, (n, omega (arith, c .list-with-arg2 .given)))
-
-same-length : tie.Need-same-length
-same-length c = search needs
-
-returns : tie.Need-returns
-returns c = search needs
+    let l = loaded (c .before .before) .load-plan .ensures in
+    let n = length-take-le _ _ (l .1 .few) ∙ loaded-count _ _ l in
+    record { loads = l .0; usable = l .1; periods = n; times = n; buffer = omega (arith, c .list-with-arg2 .given) }
 
 pub list-plan-spec : {M : Type 1} → statement M
 list-plan-spec =
     tie.close
-    (tie.spec
-    read-plan-requires
-    cast-n
-    array-borrow-prefix-periods
-    slice-aggregate-list-with
-    array-borrow-prefix-times
-    slice-aggregate-list-with-2
-    list-with-requires
-    same-length
-    returns)
+    (tie.spec (λ c κs. search needs) (λ c. search needs) slice-aggregate-list-with (λ c. search needs)
+    slice-aggregate-list-with-2 list-with-requires (λ c. search needs) (λ c. search needs))

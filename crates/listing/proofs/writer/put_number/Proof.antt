@@ -13,34 +13,18 @@ small c = omega (arith, c .before .before .before .fits .n)
 fewest : (c : tie.After-decimal) → c .decimal .result ≤ 20
 fewest c = few-digits _ _ (small c) (c .decimal .ensures .1 .0)
 
-decimal-requires : tie.Need-decimal-requires
-decimal-requires c κs = search needs
-
-array-share-prefix-text : tie.Need-array-share-prefix-text
-array-share-prefix-text c = search needs
-
-slice-aggregate-put-text : tie.Need-slice-aggregate-put-text
-slice-aggregate-put-text c = search needs
-
 put-text-requires : tie.Need-put-text-requires
 put-text-requires c κs = omega (arith, fewest (c .before .before), c .before .before .decimal .ensures .0 .1)
-
-same-length : tie.Need-same-length
-same-length c = search needs
 
 returns : tie.Need-returns
 returns c =
     let d = c .before .before .before .before .before in
     let e = d .decimal .ensures in
-    rw (e .1 .1 ∙ decimal-is _ _ (small d) (e .1 .0)) at (puts-within 21 (omega (arith, fewest d, e .0 .1)) (c .before .before .put-text .ensures))
+    rw (e .1 .1 ∙ decimal-is _ _ (small d) (e .1 .0))
+    at (puts-within 21 (omega (arith, fewest d, e .0 .1)) (c .before .before .put-text .ensures))
 
 pub put-number-spec : {M : Type 1} → statement M
 put-number-spec =
     tie.close
-    (tie.spec
-    decimal-requires
-    array-share-prefix-text
-    slice-aggregate-put-text
-    put-text-requires
-    same-length
+    (tie.spec (λ c κs. search needs) (λ c. search needs) (λ c. search needs) put-text-requires (λ c. search needs)
     returns)

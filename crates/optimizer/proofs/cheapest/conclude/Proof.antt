@@ -1,85 +1,71 @@
-use mathlib.Core.Path.{sym, ap, _∙_}
-use Prim.Native.Nat.{ℕ}
+use mathlib.Core.Path.{_≡_, sym, ap, _∙_}
 use borrow.Author.Needs.{needs}
 use native.Mathlib.Omega.{arith}
-use borrow.Author.Tests.{le-leb}
-use lib.ListN.{replicate}
-use Rattle.plan.proofs.Fields.{ne-zero}
-use Rattle.optimizer.proofs.Looping.{width}
-use Rattle.optimizer.proofs.Concluding.{is-alone, is-none, is-feasible, is-searched, answers-searched, concluded-refused, longest-limits}
+use lib.ListN.{length, take, replicate, length-map}
+use Rattle.plan.specs.Tasks.{periodMaxs}
+use Rattle.plan.specs.Table.{tasksIn}
+use Rattle.response.specs.Analysis.{responseTimes, firstMissed}
+use Rattle.response.proofs.Missed.{first-schedulable}
+use Rattle.optimizer.proofs.Settled.{alone}
+use Rattle.optimizer.proofs.Concluding.{is-alone, is-none, concluded-refused, concluded-searched, longest-limits}
 use Rattle.optimizer.proofs.cheapest.conclude.Statement.{statement}
 use Rattle.optimizer.proofs.cheapest.conclude.Tie as tie
 
--- where the call began, from where rule 31 was tested
-abbrev start : tie.After-infeasible-alone → tie.Start
-start c =
-    let start = c .before .before .before .before .before .before .before .before in
-    start
+-- where the call began, from where rule 31 was tested, and from where the longest periods were read
+abbrev start : tie.After-alone-fault → tie.Start
+start c = c .before .before .before .before
 
-infeasible-alone-requires : tie.Need-infeasible-alone-requires
-infeasible-alone-requires c κs =
-    let g = c .before .before .before .before .before .before .before .pre .0 .are in omega (arith, width g, g .few)
+abbrev tested : tie.After-longest-periods → tie.After-alone-fault
+tested c = c .before .before .before
 
-refused-requires : tie.Need-refused-requires
-refused-requires c κs = search needs
+passes : (c : tie.After-longest-periods) → alone (tasksIn (start (tested c) .args .tasks .now)) .number ≡ 0
+passes c = sym (ap (λ f. f .number) (tested c .alone-fault .ensures)) ∙ c .before .if1 .left
+
+longest-is : (c : tie.After-longest-periods) → let a = start (tested c) .args in
+    take (length (a .periods .now)) (c .longest-periods .result) ≡ periodMaxs (tasksIn (a .tasks .now))
+longest-is c = rw (start (tested c) .pre .sized) (c .longest-periods .ensures)
+
+longest-long : tie.Need-slice-aggregate-first-unschedulable
+longest-long c =
+    let l = c .before in
+    start (tested l) .pre .sized
+    ∙ sym (ap length (longest-is l) ∙ length-map (tasksIn (start (tested l) .args .tasks .now)) (λ t. t .«period_max»))
+
+missed-is : (c : tie.After-first-unschedulable) → let ts = tasksIn (start (tested (c .before .before)) .args .tasks .now) in
+    c .first-unschedulable .result ≡ firstMissed (responseTimes ts (periodMaxs ts))
+missed-is c = rw (longest-is (c .before .before)) at (c .first-unschedulable .ensures)
 
 returns : tie.Need-returns
 returns c =
-    let r = c .before .before in
-    let a = start r .args in
-    let k : ℕ = r .infeasible-alone .result in
-    let e = rw (le-leb 1 k (ne-zero k (c .before .if1 .taken))) at (r .infeasible-alone .ensures) in
-    λ ts g. rw (c .refused .ensures) (concluded-refused ts (a .budget) _ 31 k (a .periods .now) (a .work .now) (is-alone g k e) (λ z. omega arith) (omega arith))
-
-first-missed-requires : tie.Need-first-missed-requires
-first-missed-requires c κs = let g = start (c .before) .pre .0 .are in (longest-limits g, omega (arith, width g))
-
-refused-requires-2 : tie.Need-refused-requires-2
-refused-requires-2 c κs = search needs
+    let t = c .before in
+    let f = t .before .before in
+    concluded-refused (t .if1 .taken) (c .refused .ensures) _ _ _ (is-alone _ (f .alone-fault .ensures) (t .if1 .taken))
 
 returns-2 : tie.Need-returns-2
 returns-2 c =
-    let m = c .before .before in
-    let a = start (m .before .before) .args in
-    let e = rw (m .before .if1 .left) at (m .before .before .infeasible-alone .ensures) in
-    λ ts g. rw (c .refused2 .ensures) (concluded-refused ts (a .budget) _ 32 (m .first-missed .result) (a .periods .now) (a .work .now) (is-none g (m .first-missed .result) e (m .first-missed .ensures) (c .before .if2 .taken)) (λ z. omega arith) (omega arith))
+    let t = c .before in
+    concluded-refused (λ z. omega arith) (c .refused2 .ensures) _ _ _
+    (is-none _ (passes (t .before .before .before)) (missed-is (t .before)) (t .if2 .taken))
 
 search-requires : tie.Need-search-requires
 search-requires c κs =
-    let d = c .before .before in
-    let p = start (d .before .before .before) .pre in
-    (record { tasks = p .0 .tasks; are = p .0 .are; top = is-feasible (p .0 .are) (sym (d .before .first-missed .ensures) ∙ d .if2 .left) }, p .1)
-
-clear-requires : tie.Need-clear-requires
-clear-requires c κs = search needs
-
-same-length : tie.Need-same-length
-same-length c = search needs
-
-same-length-2 : tie.Need-same-length-2
-same-length-2 c = search needs
+    let m = c .before .before in
+    let s = start (tested (m .before .before .before)) in
+    record { given = s .pre; top = first-schedulable _ _ (sym (missed-is (m .before)) ∙ m .if2 .left) }
 
 returns-3 : tie.Need-returns-3
 returns-3 c =
     let s = c .before .before .before .before .before .before .before .before in
-    let d = s .before .before .before in
-    let a = start (d .before .before .before) .args in
-    let e = rw (d .before .before .if1 .left) at (d .before .before .before .infeasible-alone .ensures) in
-    let w = c .before .before .clear .ensures ∙ ap (λ k. replicate k 0) (s .search .kept .1 .1 .1 .1 .1 .1 .1 .0) in
-    λ ts g. answers-searched g (a .budget) _ (a .periods .now) _ (a .work .now) _ (s .search .result) (is-searched g e (is-feasible g (sym (d .before .first-missed .ensures) ∙ d .if2 .left))) (s .search .ensures) w
+    let m = s .before .before .before in
+    let l = m .before .before .before in
+    let cleared = c .before .before .clear .ensures ∙ ap (λ k. replicate k 0) (s .search .kept .1 .1 .1 .0) in
+    concluded-searched _ (passes l) (start (tested l) .pre .valid) (first-schedulable _ _ (sym (missed-is (m .before)) ∙ m .if2 .left)) _ _
+    (s .search .ensures) cleared
 
 pub conclude-spec : {M : Type 1} → statement M
 conclude-spec =
     tie.close
-    (tie.spec
-    infeasible-alone-requires
-    refused-requires
-    returns
-    first-missed-requires
-    refused-requires-2
-    returns-2
-    search-requires
-    clear-requires
-    same-length
-    same-length-2
+    (tie.spec (λ c κs. search needs) (λ c κs. search needs) returns (λ c κs. search needs) (λ c. search needs)
+    longest-long (λ c κs. let l = c .before in rw (longest-is l) (longest-limits (start (tested l) .pre)))
+    (λ c κs. search needs) returns-2 search-requires (λ c κs. search needs) (λ c. search needs) (λ c. search needs)
     returns-3)

@@ -12,17 +12,15 @@ Inv-loop work₀ i₀ work i = Filled (replicate (length work₀) 0) work₀ wor
 abbrev μ-loop : tie.MeasureT-loop
 μ-loop work₀ i₀ work i = length work₀ - i
 
+loop-again : tie.Need-loop-again Inv-loop μ-loop
+loop-again c =
+    let l = c .before in
+    filled-more (l .loop .inv) (simp length-replicate (search needs))
+    (sym (getD-replicate (length (l .before .args .work .now)) (l .loop .i) 0 0 (search needs)))
+
 pub clear-spec : {M : Type 1} → statement M
 clear-spec =
     tie.close
-    (tie.spec
-    Inv-loop
-    μ-loop
-    (λ c. filled-none _ _ (simp length-replicate (search needs)))
-    (λ c. search needs)
-    (λ c. search needs)
-    (λ c. search needs)
-    (λ c. search needs)
-    (λ c. filled-more (c .before .loop .inv) (simp length-replicate (search needs)) (sym (getD-replicate (length (c .before .before .args .work .now)) (c .before .loop .i) 0 0 (search needs))))
-    (λ c. search needs)
+    (tie.spec Inv-loop μ-loop (λ c. filled-none _ _ (simp length-replicate (search needs))) (λ c. search needs)
+    (λ c. search needs) (λ c. search needs) (λ c. search needs) loop-again (λ c. search needs)
     (λ c. filled-whole (c .before .loop .inv) (simp length-replicate (search needs)) (simp length-replicate)))

@@ -1,5 +1,5 @@
 use borrow.Author.Needs.{needs}
-use mathlib.Core.Path.{_≡_, refl}
+use mathlib.Core.Path.{refl}
 use Prim.Native.Nat.{_-_}
 use lib.ListN.{length}
 use Rattle.optimizer.proofs.Fill.{Filled, filled-none, filled-more, filled-front}
@@ -7,23 +7,22 @@ use Rattle.optimizer.proofs.nodes.read_node.Statement.{statement}
 use Rattle.optimizer.proofs.nodes.read_node.Tie as tie
 
 abbrev Inv-loop : tie.InvT-loop
-Inv-loop node r₀ i₀ r i = Filled node r₀ r i × (length r₀ ≡ 16)
+Inv-loop node r₀ i₀ r i = Filled node r₀ r i
 
 abbrev μ-loop : tie.MeasureT-loop
 μ-loop node r₀ i₀ r i = length node - i
 
+loop-holds : tie.Need-loop-holds Inv-loop μ-loop
+loop-holds c = filled-none _ _ (search needs)
+
+loop-again : tie.Need-loop-again Inv-loop μ-loop
+loop-again c = filled-more (c .before .before .loop .inv) (search needs) refl
+
+returns : tie.Need-returns Inv-loop μ-loop
+returns c = filled-front (c .before .loop .inv) refl (search needs)
+
 pub read-node-spec : {M : Type 1} → statement M
 read-node-spec =
     tie.close
-    (tie.spec
-    Inv-loop
-    μ-loop
-    (λ c. (filled-none _ _ (search needs), refl))
-    (λ c. search needs)
-    (λ c. search needs)
-    (λ c. search needs)
-    (λ c. search needs)
-    (λ c. search needs)
-    (λ c. search needs)
-    (λ c. (filled-more (c .before .before .loop .inv .0) (search needs) refl, c .before .before .loop .inv .1))
-    (λ c. filled-front (c .before .loop .inv .0) (search needs)))
+    (tie.spec Inv-loop μ-loop loop-holds (λ c. search needs) (λ c. search needs) (λ c. search needs)
+    (λ c. search needs) (λ c. search needs) (λ c. search needs) loop-again returns)

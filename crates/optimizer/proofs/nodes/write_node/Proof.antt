@@ -15,16 +15,7 @@ abbrev μ-loop : tie.MeasureT-loop
 pub write-node-spec : {M : Type 1} → statement M
 write-node-spec =
     tie.close
-    (tie.spec
-    Inv-loop
-    μ-loop
-    (λ c. filled-none _ _ (search needs))
-    (λ c. search needs)
-    (λ c. search needs)
-    (λ c. search needs)
-    (λ c. search needs)
-    (λ c. search needs)
-    (λ c. search needs)
-    (λ c. filled-more (c .before .before .loop .inv) (search needs) refl)
-    (λ c. search needs)
+    (tie.spec Inv-loop μ-loop (λ c. filled-none _ _ (search needs)) (λ c. search needs) (λ c. search needs)
+    (λ c. search needs) (λ c. search needs) (λ c. search needs) (λ c. search needs)
+    (λ c. filled-more (c .before .before .loop .inv) (search needs) refl) (λ c. search needs)
     (λ c. filled-whole (c .before .loop .inv) (search needs) (search needs)))

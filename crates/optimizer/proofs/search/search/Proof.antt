@@ -1,225 +1,144 @@
 use mathlib.Core.Path.{_≡_, refl, sym, ap, _∙_}
-use mathlib.Core.Bool.{false}
-use Prim.Native.Nat.{ℕ, _-_, _*_, _/_, _≤_}
-use native.Mathlib.Nat.{le-div-iff-mul-le, div-mul-le-self, one-mul}
+use Prim.Native.Nat.{ℕ, _-_}
 use borrow.Author.Needs.{needs}
 use native.Mathlib.Omega.{arith}
-use lib.ListN.{length, take}
-use Rattle.response.specs.Analysis.{timing, schedulable}
-use Rattle.optimizer.proofs.Space.{first-node}
-use Rattle.optimizer.proofs.Looping.{Looping, width, begins, some-open, all-open, ends-spent, node-limits, node-priced, ends-answer, node-fails, node-room, node-above, ends-full, goes-on, ends}
+use lib.ListN.{length, take, length-take, length-map}
+use Rattle.plan.specs.Tasks.{periodMins}
+use Rattle.plan.specs.Table.{tasksIn}
+use Rattle.response.specs.Analysis.{schedulable}
+use Rattle.optimizer.specs.Rule.{End}
+use Rattle.optimizer.specs.Search.{rule}
+use Rattle.optimizer.specs.Search as specs
+use Rattle.optimizer.proofs.Branching.{lawful}
+use Rattle.optimizer.proofs.Settled.{sound}
+use Rattle.optimizer.proofs.Looping.{Looping, begins, of-room, ready, round-node, ends-spent, ends-answered, ends-full, goes-on}
 use Rattle.optimizer.proofs.search.search.Statement.{statement}
 use Rattle.optimizer.proofs.search.search.Tie as tie
 
 abbrev Inv-loop : tie.InvT-loop
-Inv-loop wcet deadline-cap period-min period-max weights budget periods₀ work₀ n room count₀ rounds₀ periods work count rounds =
-    (periods ≡ periods₀) × Looping wcet deadline-cap period-min period-max weights budget room (length work₀) work count rounds
+Inv-loop tasks budget periods₀ work₀ n room count₀ rounds₀ periods work count rounds =
+    let ts = tasksIn tasks in
+    (periods ≡ periods₀)
+    × Looping ts (schedulable ts) (rule ts (schedulable ts)) (λ s. Unit {0}) (specs.search ts budget room) budget room (length work₀)
+    tt work count rounds
 
 abbrev μ-loop : tie.MeasureT-loop
-μ-loop wcet deadline-cap period-min period-max weights budget periods₀ work₀ n room count₀ rounds₀ periods work count rounds = budget - rounds
+μ-loop tasks budget periods₀ work₀ n room count₀ rounds₀ periods work count rounds = budget - rounds
 
--- the places on the way back from the loop's head, and from the taking of a node
+-- from the first node back to the start, from the loop's head to the placing of that node and to the start, from a round to the head
+abbrev begun : tie.After-first Inv-loop μ-loop → tie.Start Inv-loop μ-loop
+begun f = f .before .before .before .before .before .before
+
 abbrev placed : tie.At-loop Inv-loop μ-loop → tie.After-place Inv-loop μ-loop
 placed l = l .before .before .before
 
 abbrev start : tie.At-loop Inv-loop μ-loop → tie.Start Inv-loop μ-loop
-start l = placed l .before .before .before .before .before .before .before .before .before
+start l = begun (placed l .before)
 
-abbrev head : tie.After-take-least Inv-loop μ-loop → tie.At-loop Inv-loop μ-loop
-head m = m .before .before .before
+abbrev head : tie.After-run-round Inv-loop μ-loop → tie.At-loop Inv-loop μ-loop
+head d = d .before .before .before
 
-abbrev taken : tie.After-is-schedulable Inv-loop μ-loop → tie.After-take-least Inv-loop μ-loop
-taken t = t .before .before .before .before
+-- from the answer back to the round
+abbrev wrote : tie.After-answered Inv-loop μ-loop → tie.After-write-node Inv-loop μ-loop
+wrote c = c .before .before .before
 
-abbrev tested : tie.After-branch Inv-loop μ-loop → tie.Else1 Inv-loop μ-loop
-tested b = b .before .before .before
+abbrev told : tie.After-node2 Inv-loop μ-loop → tie.After-enum-told Inv-loop μ-loop
+told c = c .before .before .before
 
--- the room lies in the work space
-roomy : (p : tie.After-place Inv-loop μ-loop) → let a = p .before .before .before .before .before .before .before .before .before .args in length (a .work .now) / length (a .weights .now) * length (a .weights .now) ≤ length (p .place .last .0)
-roomy p = let a = p .before .before .before .before .before .before .before .before .before .args in omega (arith, div-mul-le-self (length (a .work .now)) (length (a .weights .now)), p .place .kept .0)
+abbrev done : tie.After-enum-told Inv-loop μ-loop → tie.After-run-round Inv-loop μ-loop
+done c = c .before .before .before .before
+
+-- where the search leads with so much room
+abbrev goal : tie.At-loop Inv-loop μ-loop → ℕ → End (Unit {0})
+goal l room = specs.search (tasksIn (start l .args .tasks .now)) (start l .args .budget) room
+
+-- the first node is the shortest periods
+first-is : (f : tie.After-first Inv-loop μ-loop) → let a = begun f .args in
+    take (length (a .periods .now)) (f .before .before .shortest-periods .result) ≡ periodMins (tasksIn (a .tasks .now))
+first-is f = rw (begun f .pre .given .sized) (f .before .before .shortest-periods .ensures)
+
+first-long : tie.Need-slice-aggregate-place Inv-loop μ-loop
+first-long f =
+    begun f .pre .given .sized
+    ∙ sym (ap length (first-is f) ∙ length-map (tasksIn (begun f .args .tasks .now)) (λ t. t .«period_min»))
+
+place-requires : tie.Need-place-requires Inv-loop μ-loop
+place-requires f κs = omega (arith, first-long f, begun f .pre .given .room, begun f .pre .given .sized)
+
+loop-holds : tie.Need-loop-holds Inv-loop μ-loop
+loop-holds c =
+    let p = c .before .before in
+    let s = begun (p .before) in
+    let 𝓛 = lawful (sound (s .pre .given .valid)) (s .pre .top) in
+    (refl, begins 𝓛 tt tt (s .args .budget) (s .pre .given) (p .place .kept .0) (first-is (p .before)) (p .place .ensures))
+
+-- the node of a round has as many periods as there are to write
+node-is : (d : tie.After-run-round Inv-loop μ-loop) → let n = length (start (head d) .args .periods .now) in
+    n ≡ length (take n (d .run-round .result .node))
+node-is d =
+    let l = head d in
+    round-node (l .loop .inv .1) (d .before .before .loop-test .taken) (d .run-round .ensures) (start l .pre .given .sized)
+
+node-fits : tie.Need-array-share-prefix-node Inv-loop μ-loop
+node-fits c =
+    let d = done (c .before .before) in
+    omega (arith, node-is d, length-take (length (start (head d) .args .periods .now)) (d .run-round .result .node))
+
+write-node-requires : tie.Need-write-node-requires Inv-loop μ-loop
+write-node-requires c κs = let d = done (told c) in sym (node-is d) ∙ sym (ap length (head d .loop .inv .0))
+
+-- the spaces are as long as they were
+written-length : tie.Need-same-length Inv-loop μ-loop
+written-length c = let w = wrote c in w .write-node .kept .0 ∙ ap length (head (done (told (w .before))) .loop .inv .0)
 
 work-length : (l : tie.At-loop Inv-loop μ-loop) → length (l .loop .work) ≡ length (start l .args .work .now)
 work-length l = l .loop .inv .1 .long ∙ placed l .place .kept .0
 
-taken-length : (m : tie.After-take-least Inv-loop μ-loop) → length (m .take-least .last .0) ≡ length (start (head m) .args .work .now)
-taken-length m = m .take-least .kept .0 ∙ work-length (head m)
-
--- the columns, and what holds at the loop's head
-few : (l : tie.At-loop Inv-loop μ-loop) → length (start l .args .weights .now) ≤ 16
-few l = let g = l .loop .inv .1 .given .are in omega (arith, width g .3, g .few)
-
-misses : (t : tie.Else1 Inv-loop μ-loop) → let m = taken (t .before) in let a = start (head m) .args in schedulable (timing (a .wcet .now) (a .deadline-cap .now)) (take (length (a .weights .now)) (m .take-least .result)) ≡ false
-misses t = sym (t .before .is-schedulable .ensures) ∙ t .if1 .left
-
-div-room : tie.Need-div-room Inv-loop μ-loop
-div-room c =
-    let start = c .before .before .before .before .before .before .before in
-    omega (arith, width (start .pre .0 .are) .3, start .pre .0 .are .some)
-
-place-requires : tie.Need-place-requires Inv-loop μ-loop
-place-requires c κs =
-    let start = c .before .before .before .before .before .before .before .before in
-    omega (arith, width (start .pre .0 .are))
-
-loop-holds : tie.Need-loop-holds Inv-loop μ-loop
-loop-holds c =
-    let s = c .before .before .before .before .before .before .before .before .before .before .before in
-    let p = c .before .before in
-    let n : ℕ = length (s .args .weights .now) in
-    let g = s .pre .0 .are in
-    (refl, begins (s .pre .0) (roomy p) (le-div-iff-mul-le (omega (arith, width g .3, g .some)) .1 (omega (arith, one-mul n))) refl (first-node {n = n} (s .args .work .now) (omega (arith, width g)) (p .place .ensures)))
-
-take-least-requires : tie.Need-take-least-requires Inv-loop μ-loop
-take-least-requires c κs = let l = c .before .before in let r = l .loop .inv .1 in (some-open r, all-open r)
-
-add-rounds : tie.Need-add-rounds Inv-loop μ-loop
-add-rounds c = search needs
-
-array-share-prefix-node : tie.Need-array-share-prefix-node Inv-loop μ-loop
-array-share-prefix-node c = omega (arith, few (head (c .before .before)))
-
-slice-aggregate-is-schedulable : tie.Need-slice-aggregate-is-schedulable Inv-loop μ-loop
-slice-aggregate-is-schedulable c = sym (c .before .before .before .take-least .ensures .sized)
-
-is-schedulable-requires : tie.Need-is-schedulable-requires Inv-loop μ-loop
-is-schedulable-requires c κs =
-    let m = c .before .before .before in
-    let l = head m in
-    let r = l .loop .inv .1 in
-    (node-limits r (m .take-least .ensures), omega (arith, width (r .given .are)))
-
-array-share-prefix-node-2 : tie.Need-array-share-prefix-node-2 Inv-loop μ-loop
-array-share-prefix-node-2 c = omega (arith, few (head (c .before .before .before .before .before .before)))
-
-slice-aggregate-write-node : tie.Need-slice-aggregate-write-node Inv-loop μ-loop
-slice-aggregate-write-node c = sym (taken (c .before .before .before) .take-least .ensures .sized)
-
-write-node-requires : tie.Need-write-node-requires Inv-loop μ-loop
-write-node-requires c κs =
-    let m = taken (c .before .before .before) in
-    m .take-least .ensures .sized ∙ sym (ap length (head m .loop .inv .0) ∙ start (head m) .pre .1 .0)
-
-array-share-prefix-node-3 : tie.Need-array-share-prefix-node-3 Inv-loop μ-loop
-array-share-prefix-node-3 c =
-    let after-take-least = c .before .before .before .before .before .before .before .before .before .before in
-    omega (arith, few (head after-take-least))
-
-slice-aggregate-cost-of : tie.Need-slice-aggregate-cost-of Inv-loop μ-loop
-slice-aggregate-cost-of c = sym (taken (c .before .before .before .before .before .before .before) .take-least .ensures .sized)
-
-cost-of-requires : tie.Need-cost-of-requires Inv-loop μ-loop
-cost-of-requires c κs =
-    let m = taken (c .before .before .before .before .before .before .before) in
-    let l = head m in
-    let r = l .loop .inv .1 in
-    node-priced r (m .take-least .ensures)
-
-same-length : tie.Need-same-length Inv-loop μ-loop
-same-length c =
-    let after-write-node = c .before .before .before .before in
-    let after-is-schedulable = after-write-node .before .before .before .before in
-    after-write-node .write-node .kept .0 ∙ ap length (head (taken after-is-schedulable) .loop .inv .0)
-
-same-length-2 : tie.Need-same-length-2 Inv-loop μ-loop
-same-length-2 c =
-    let after-is-schedulable = c .before .before .before .before .before .before .before .before in
-    taken-length (taken after-is-schedulable)
+round-length : (d : tie.After-run-round Inv-loop μ-loop)
+    → length (d .run-round .last .1 .0) ≡ length (start (head d) .args .work .now)
+round-length d = d .run-round .kept .1 .0 ∙ work-length (head d)
 
 returns : tie.Need-returns Inv-loop μ-loop
 returns c =
-    let after-write-node = c .before .before .before .before in
-    let then1 = after-write-node .before .before .before in
-    let after-is-schedulable = then1 .before in
-    let m = taken after-is-schedulable in let l = head m in let r = l .loop .inv .1 in
-    ends (ends-answer r (m .take-least .ensures) (m .before .before .loop-test .taken) (sym (after-is-schedulable .is-schedulable .ensures) ∙ then1 .if1 .taken)) (c .cost-of .ensures) refl (after-write-node .write-node .ensures)
-
-sub-branch : tie.Need-sub-branch Inv-loop μ-loop
-sub-branch c = let m = taken (c .before .before) in let l = head m in let r = l .loop .inv .1 in omega (arith, some-open r)
-
-array-share-prefix-node-4 : tie.Need-array-share-prefix-node-4 Inv-loop μ-loop
-array-share-prefix-node-4 c = omega (arith, few (head (taken (c .before .before))))
-
-slice-aggregate-branch : tie.Need-slice-aggregate-branch Inv-loop μ-loop
-slice-aggregate-branch c = sym (taken (c .before .before .before) .take-least .ensures .sized)
-
-branch-requires : tie.Need-branch-requires Inv-loop μ-loop
-branch-requires c κs =
-    let t = c .before .before in
-    let m = taken (t .before) in
-    let l = head m in
-    let r = l .loop .inv .1 in
-    let y = m .take-least .ensures in
-    let h = m .before .before .loop-test .taken in
-    let k = m .take-least .kept .0 in
-    (node-fails r y h (misses t) k, (node-room r y h (misses t) k, node-above r y h (misses t) k))
-
-enum-known-listing : tie.Need-enum-known-listing Inv-loop μ-loop
-enum-known-listing c = search needs
-
-enum-told : tie.Need-enum-told Inv-loop μ-loop
-enum-told c = search needs
-
-array-share-prefix-node-5 : tie.Need-array-share-prefix-node-5 Inv-loop μ-loop
-array-share-prefix-node-5 c = omega (arith, few (head (taken (tested (c .before .before .before .before) .before))))
-
-slice-aggregate-cost-of-2 : tie.Need-slice-aggregate-cost-of-2 Inv-loop μ-loop
-slice-aggregate-cost-of-2 c = sym (taken (tested (c .before .before .before .before .before) .before) .take-least .ensures .sized)
-
-cost-of-requires-2 : tie.Need-cost-of-requires-2 Inv-loop μ-loop
-cost-of-requires-2 c κs =
-    let m = taken (tested (c .before .before .before .before .before) .before) in
-    let l = head m in
-    let r = l .loop .inv .1 in
-    node-priced r (m .take-least .ensures)
-
-stopped-requires : tie.Need-stopped-requires Inv-loop μ-loop
-stopped-requires c κs = search needs
-
-same-length-3 : tie.Need-same-length-3 Inv-loop μ-loop
-same-length-3 c = ap length (head (taken (tested (c .before .before .before .before .before .before .before) .before)) .loop .inv .0)
-
-same-length-4 : tie.Need-same-length-4 Inv-loop μ-loop
-same-length-4 c =
-    let after-branch = c .before .before .before .before .before .before .before in
-    after-branch .branch .kept .1 .1 .1 .0 ∙ taken-length (taken (tested after-branch .before))
+    let w = wrote c in
+    let m = told (w .before) in
+    let d = done m in
+    let l = head d in
+    of-room (start l .pre .given) (goal l)
+    (ends-answered (l .loop .inv .1) (d .before .before .loop-test .taken) (d .run-round .ensures) (m .enum-told .given .1)
+    (start l .pre .given .sized) (w .write-node .ensures) (c .answered .ensures))
 
 returns-2 : tie.Need-returns-2 Inv-loop μ-loop
 returns-2 c =
-    let after-enum-told = c .before .before .before in
-    let b = after-enum-told .before .before .before .before in
-    let t = tested b in let m = taken (t .before) in let l = head m in let r = l .loop .inv .1 in
-    rw (c .stopped .ensures) (ends (ends-full r (m .take-least .ensures) (m .before .before .loop-test .taken) (misses t) (m .take-least .kept .0) (b .branch .ensures) (after-enum-told .enum-told .given .1)) refl (c .before .cost-of2 .ensures) (l .loop .inv .0))
-
-loop-less : tie.Need-loop-less Inv-loop μ-loop
-loop-less c = omega arith
+    let d = c .before .before .before .before .before in
+    let l = head d in
+    of-room (start l .pre .given) (goal l)
+    (ends-full (l .loop .inv .1) (d .before .before .loop-test .taken) (d .run-round .ensures) (c .before .enum-told2 .given .1)
+    (l .loop .inv .0) (c .stopped .ensures))
 
 loop-again : tie.Need-loop-again Inv-loop μ-loop
 loop-again c =
-    let b = c .before .before .before .before .before in
-    let t = tested b in
-    let m = taken (t .before) in
-    let l = head m in
-    let r = l .loop .inv .1 in
-    (l .loop .inv .0, goes-on r (m .take-least .ensures) (m .before .before .loop-test .taken) (misses t) (m .take-least .kept .0) (b .branch .ensures) (c .before .listing .given .1) (b .branch .kept .1 .1 .1 .0))
-
-bound-of-requires : tie.Need-bound-of-requires Inv-loop μ-loop
-bound-of-requires c κs = let l = c .before .before in let r = l .loop .inv .1 in (some-open r, all-open r)
-
-stopped-requires-2 : tie.Need-stopped-requires-2 Inv-loop μ-loop
-stopped-requires-2 c κs = search needs
-
-same-length-5 : tie.Need-same-length-5 Inv-loop μ-loop
-same-length-5 c = ap length (c .before .before .before .before .loop .inv .0)
-
-same-length-6 : tie.Need-same-length-6 Inv-loop μ-loop
-same-length-6 c = work-length (c .before .before .before .before)
+    let d = c .before .before .before .before .before in
+    let l = head d in
+    let t = d .before .before .loop-test .taken in
+    (l .loop .inv .0, goes-on (l .loop .inv .1) t (d .run-round .ensures) (c .before .step .given .1) (d .run-round .kept .1 .0))
 
 returns-3 : tie.Need-returns-3 Inv-loop μ-loop
 returns-3 c =
-    let after-loop = c .before .before .before in
-    let l = after-loop .before in
-    let r = l .loop .inv .1 in
-    rw (c .stopped2 .ensures) (ends (ends-spent r (after-loop .loop-test .left)) refl (c .before .bound-of .ensures) (l .loop .inv .0))
+    let x = c .before .before .before in
+    let l = x .before in
+    of-room (start l .pre .given) (goal l)
+    (ends-spent (l .loop .inv .1) (x .loop-test .left) (c .before .bound-of .ensures) (l .loop .inv .0) (c .stopped2 .ensures))
 
 pub search-spec : {M : Type 1} → statement M
-search-spec = tie.close (tie.spec Inv-loop μ-loop div-room place-requires loop-holds take-least-requires add-rounds array-share-prefix-node slice-aggregate-is-schedulable is-schedulable-requires array-share-prefix-node-2 slice-aggregate-write-node write-node-requires array-share-prefix-node-3 slice-aggregate-cost-of cost-of-requires same-length same-length-2 returns sub-branch array-share-prefix-node-4 slice-aggregate-branch branch-requires enum-known-listing enum-told array-share-prefix-node-5 slice-aggregate-cost-of-2 cost-of-requires-2 stopped-requires same-length-3 same-length-4 returns-2 loop-less loop-again bound-of-requires stopped-requires-2 same-length-5 same-length-6 returns-3)
+search-spec =
+    tie.close
+    (tie.spec Inv-loop μ-loop (λ c. search needs) (λ c κs. search needs) (λ c. search needs) first-long place-requires
+    loop-holds (λ c κs. ready (c .before .before .loop .inv .1)) (λ c. search needs) (λ c. search needs) node-fits
+    (λ c. node-is (done (told c))) write-node-requires (λ c κs. search needs) written-length
+    (λ c. round-length (done (told (wrote c .before)))) returns (λ c. search needs) (λ c κs. search needs)
+    (λ c. ap length (head (c .before .before .before .before .before) .loop .inv .0))
+    (λ c. round-length (c .before .before .before .before .before)) returns-2 (λ c. search needs) (λ c. search needs)
+    loop-again (λ c κs. ready (c .before .before .loop .inv .1) .holds) (λ c κs. search needs)
+    (λ c. ap length (c .before .before .before .before .loop .inv .0))
+    (λ c. work-length (c .before .before .before .before)) returns-3)

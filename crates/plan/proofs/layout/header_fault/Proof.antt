@@ -6,87 +6,75 @@ use native.Mathlib.Omega.{arith}
 use borrow.Author.Tests.{le-leb, lt-leb, eq-eqb, ne-eqb}
 use lib.ListN.{length}
 use Rattle.plan.specs.Faults.{none}
+use Rattle.plan.specs.Tasks.{minFile, maxFile, maxTasks}
 use Rattle.plan.specs.Layout.{version, taskCount, totalLength}
 use Rattle.plan.specs.Files.{lengthFault, versionFault, countFault}
 use Rattle.plan.proofs.layout.header_fault.Statement.{statement}
 use Rattle.plan.proofs.layout.header_fault.Tie as tie
 
--- the rules that have passed, from where they were tested
-abbrev bytes : tie.Else1 → List ℕ
-bytes c = c .before .before .args .file .now
+-- where a rule has passed, and where the one before it has
+abbrev bytes : tie.Else2 → List ℕ
+bytes c = c .before .before .before .args .file .now
 
-sized : (c : tie.Else2) → lengthFault (bytes (c .before)) ≡ none
-sized c = let s = bytes (c .before) in rw (le-leb 16 (length s) (omega arith), le-leb (length s) 2048 (omega arith))
+abbrev at2 : tie.Else3 → tie.Else2
+at2 c = c .before .before
 
-versioned : (c : tie.Else3) → versionFault (bytes (c .before .before .before)) ≡ none
-versioned c = rw (eq-eqb (version (bytes (c .before .before .before))) 1 (omega arith))
+abbrev at3 : tie.Else4 → tie.Else3
+at3 c = c .before .before
 
-counted : (c : tie.Else5) → let s = bytes (c .before .before .before .before .before .before) in countFault s ≡ none
-counted c = let s = bytes (c .before .before .before .before .before .before) in rw (le-leb 1 (taskCount s) (omega arith), le-leb (taskCount s) 16 (omega arith))
+sized : (c : tie.Else2) → lengthFault (bytes c) ≡ none
+sized c = rw (le-leb minFile (length (bytes c)) (omega arith), le-leb (length (bytes c)) maxFile (omega arith))
+
+versioned : (c : tie.Else3) → versionFault (bytes (at2 c)) ≡ none
+versioned c = rw (eq-eqb (version (bytes (at2 c))) 1 (omega arith))
+
+counted : (c : tie.Else5) → let s = bytes (at2 (at3 (c .before))) in countFault s ≡ none
+counted c = let s = bytes (at2 (at3 (c .before))) in rw (le-leb 1 (taskCount s) (omega arith), le-leb (taskCount s) maxTasks (omega arith))
 
 returns : tie.Need-returns
-returns c = rw (lt-leb 16 _ (c .if1 .taken))
+returns c = rw (c .header-broken .ensures, lt-leb minFile _ (c .before .if1 .taken))
 
 returns-2 : tie.Need-returns-2
-returns-2 c = rw (le-leb 16 _ (c .before .if1 .left), lt-leb _ 2048 (c .if2 .taken))
-
-word2-at-requires : tie.Need-word2-at-requires
-word2-at-requires c κs = search needs
+returns-2 c =
+    let t = c .before in rw (c .header-broken2 .ensures, le-leb minFile _ (t .before .if1 .left), lt-leb _ maxFile (t .if2 .taken))
 
 returns-3 : tie.Need-returns-3
 returns-3 c =
-    let s = bytes (c .before .before .before) in
-    rw (sized (c .before .before), ne-eqb (version s) 1 (λ e. c .if3 .taken (c .before .word2-at .ensures .0 ∙ e)))
-
-word2-at-requires-2 : tie.Need-word2-at-requires-2
-word2-at-requires-2 c κs = search needs
-
-cast-count : tie.Need-cast-count
-cast-count c = search needs
+    let t = c .before in
+    let l = t .before .before in
+    rw (c .header-broken3 .ensures, sized l, ne-eqb (version (bytes l)) 1 (λ e. t .if3 .taken (t .before .word2-at .ensures .0 ∙ e)))
 
 returns-4 : tie.Need-returns-4
 returns-4 c =
-    let v = c .before .before in
-    let s = bytes (v .before .before .before) in
-    rw (sized (v .before .before), versioned v, lt-leb 1 (taskCount s) (omega arith))
+    let v = c .before .before .before in
+    rw (c .header-broken4 .ensures, sized (at2 v), versioned v, lt-leb 1 (taskCount (bytes (at2 v))) (omega arith))
 
 returns-5 : tie.Need-returns-5
 returns-5 c =
-    let v = c .before .before .before in
-    let s = bytes (v .before .before .before) in
-    rw (sized (v .before .before), versioned v, le-leb 1 (taskCount s) (omega arith), lt-leb (taskCount s) 16 (omega arith))
-
-word4-at-requires : tie.Need-word4-at-requires
-word4-at-requires c κs = search needs
-
-cast-if6 : tie.Need-cast-if6
-cast-if6 c = search needs
+    let v = at3 (c .before .before) in
+    let n = taskCount (bytes (at2 v)) in
+    rw (c .header-broken5 .ensures, sized (at2 v), versioned v, le-leb 1 n (omega arith), lt-leb n maxTasks (omega arith))
 
 returns-6 : tie.Need-returns-6
 returns-6 c =
-    let v = c .before .before .before .before .before in
-    let s = bytes (v .before .before .before) in
-    rw (sized (v .before .before), versioned v, counted (c .before .before), ne-eqb (totalLength s) (length s) (λ e. c .if6 .taken (c .before .word4-at .ensures ∙ e)))
+    let t = c .before in
+    let n = t .before .before in
+    let v = at3 (n .before) in
+    let s = bytes (at2 v) in
+    let e = ne-eqb (totalLength s) (length s) (λ e. t .if6 .taken (t .before .word4-at .ensures ∙ e)) in
+    rw (c .header-broken6 .ensures, sized (at2 v), versioned v, counted n, e)
 
 returns-7 : tie.Need-returns-7
 returns-7 c =
-    let v = c .before .before .before .before .before in
-    let s = bytes (v .before .before .before) in
-    rw (sized (v .before .before), versioned v, counted (c .before .before), eq-eqb (totalLength s) (length s) (omega arith))
+    let n = c .before .before .before in
+    let v = at3 (n .before) in
+    let s = bytes (at2 v) in
+    rw (c .none .ensures, sized (at2 v), versioned v, counted n, eq-eqb (totalLength s) (length s) (omega arith))
 
 pub header-fault-spec : {M : Type 1} → statement M
 header-fault-spec =
     tie.close
-    (tie.spec
-    returns
-    returns-2
-    word2-at-requires
-    returns-3
-    word2-at-requires-2
-    cast-count
-    returns-4
-    returns-5
-    word4-at-requires
-    cast-if6
-    returns-6
-    returns-7)
+    (tie.spec (λ c κs. search needs) returns (λ c κs. search needs) returns-2 (λ c κs. search needs)
+    (λ c κs. search needs) returns-3 (λ c κs. search needs) (λ c. search needs) (λ c κs. search needs) returns-4
+    (λ c κs. search needs) returns-5 (λ c κs. search needs) (λ c. search needs) (λ c κs. search needs) returns-6
+    (λ c κs. search needs) returns-7)

@@ -12,26 +12,24 @@ no-capital c = sym (c .before .between .ensures) ∙ c .if1 .left
 no-letter : (c : tie.Else2) → between 97 (c .before .before .before .before .args .b) 122 ≡ false
 no-letter c = sym (c .before .between2 .ensures) ∙ c .if2 .left
 
-between-requires : tie.Need-between-requires
-between-requires c κs = search needs
-
 returns : tie.Need-returns
 returns c = rw (sym (c .before .between .ensures) ∙ c .if1 .taken)
-
-between-requires-2 : tie.Need-between-requires-2
-between-requires-2 c κs = search needs
 
 returns-2 : tie.Need-returns-2
 returns-2 c = rw (no-capital (c .before .before), sym (c .before .between2 .ensures) ∙ c .if2 .taken)
 
-between-requires-3 : tie.Need-between-requires-3
-between-requires-3 c κs = search needs
-
 returns-3 : tie.Need-returns-3
-returns-3 c = rw (no-capital (c .before .before .before .before), no-letter (c .before .before), sym (c .before .between3 .ensures) ∙ c .if3 .taken)
+returns-3 c =
+    let l = c .before .before in
+    rw (no-capital (l .before .before), no-letter l, sym (c .before .between3 .ensures) ∙ c .if3 .taken)
 
 returns-4 : tie.Need-returns-4
-returns-4 c = rw (no-capital (c .before .before .before .before), no-letter (c .before .before), sym (c .before .between3 .ensures) ∙ c .if3 .left)
+returns-4 c =
+    let l = c .before .before in
+    rw (no-capital (l .before .before), no-letter l, sym (c .before .between3 .ensures) ∙ c .if3 .left)
 
 pub is-name-byte-spec : {M : Type 1} → statement M
-is-name-byte-spec = tie.close (tie.spec between-requires returns between-requires-2 returns-2 between-requires-3 returns-3 returns-4)
+is-name-byte-spec =
+    tie.close
+    (tie.spec (λ c κs. search needs) returns (λ c κs. search needs) returns-2 (λ c κs. search needs) returns-3
+    returns-4)

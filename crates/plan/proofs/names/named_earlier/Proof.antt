@@ -4,7 +4,8 @@ use Prim.Native.Nat.{_-_, _≤_}
 use native.Mathlib.Numerals.{add-one}
 use borrow.Author.Needs.{needs}
 use native.Mathlib.Omega.{arith}
-use Rattle.plan.specs.Names.{namedEarlier}
+use Rattle.plan.specs.Lists.{same}
+use Rattle.plan.specs.Names.{nameField, namedEarlier}
 use Rattle.plan.proofs.Fields.{earlier-found}
 use Rattle.plan.proofs.names.named_earlier.Statement.{statement}
 use Rattle.plan.proofs.names.named_earlier.Tie as tie
@@ -15,44 +16,33 @@ Inv-loop file i names j₀ j = (j ≤ i) × (namedEarlier file i j ≡ false)
 abbrev μ-loop : tie.MeasureT-loop
 μ-loop file i names j₀ j = i - j
 
-loop-holds : tie.Need-loop-holds Inv-loop μ-loop
-loop-holds c = search needs
+abbrev turn : tie.After-same-field Inv-loop μ-loop → tie.At-loop Inv-loop μ-loop
+turn c = c .before .before
 
-mul-same-field : tie.Need-mul-same-field Inv-loop μ-loop
-mul-same-field c = search needs
+abbrev start : tie.At-loop Inv-loop μ-loop → tie.Start Inv-loop μ-loop
+start l = l .before .before
 
-add-same-field : tie.Need-add-same-field Inv-loop μ-loop
-add-same-field c = search needs
-
-mul-same-field-2 : tie.Need-mul-same-field-2 Inv-loop μ-loop
-mul-same-field-2 c = search needs
-
-add-same-field-2 : tie.Need-add-same-field-2 Inv-loop μ-loop
-add-same-field-2 c = search needs
-
-same-field-requires : tie.Need-same-field-requires Inv-loop μ-loop
-same-field-requires c κs = search needs
+tested : (c : tie.After-same-field Inv-loop μ-loop)
+    → let l = turn c in let a = start l .args in
+    same (nameField (a .file .now) (a .i)) (nameField (a .file .now) (l .loop .j)) ≡ c .same-field .result
+tested c = rw (start (turn c) .pre .0 .names) at (sym (c .same-field .ensures))
 
 returns : tie.Need-returns Inv-loop μ-loop
 returns c =
-    let at-loop = c .before .before .before in
-    let start = at-loop .before .before in
-    sym (earlier-found (start .args .file .now) (start .args .i) (at-loop .loop .j) (start .args .i) (omega arith) (rw (start .pre .0 .names) at (sym (c .before .same-field .ensures) ∙ c .if1 .taken)))
-
-add-j : tie.Need-add-j Inv-loop μ-loop
-add-j c = search needs
-
-loop-less : tie.Need-loop-less Inv-loop μ-loop
-loop-less c = search needs
+    let l = turn (c .before) in
+    let a = start l .args in
+    sym (earlier-found (a .file .now) (a .i) (l .loop .j) (a .i) (omega arith) (tested (c .before) ∙ c .if1 .taken))
 
 loop-again : tie.Need-loop-again Inv-loop μ-loop
-loop-again c =
-    let at-loop = c .before .before .before in
-    let start = at-loop .before .before in
-    (omega arith, rw (add-one, at-loop .loop .inv .1) (rw (start .pre .0 .names) at (sym (c .before .same-field .ensures) ∙ c .if1 .left)))
+loop-again c = (omega arith, rw (add-one, turn (c .before) .loop .inv .1) (tested (c .before) ∙ c .if1 .left))
 
 returns-2 : tie.Need-returns-2 Inv-loop μ-loop
-returns-2 c = let e : c .before .loop .j ≡ c .before .before .before .args .i = omega arith in sym (rw e at (c .before .loop .inv .1))
+returns-2 c =
+    let l = c .before in
+    let e : l .loop .j ≡ start l .args .i = omega arith in sym (rw e at (l .loop .inv .1))
 
 pub named-earlier-spec : {M : Type 1} → statement M
-named-earlier-spec = tie.close (tie.spec Inv-loop μ-loop loop-holds mul-same-field add-same-field mul-same-field-2 add-same-field-2 same-field-requires returns add-j loop-less loop-again returns-2)
+named-earlier-spec =
+    tie.close
+    (tie.spec Inv-loop μ-loop (λ c. search needs) (λ c. search needs) (λ c. search needs) (λ c. search needs)
+    (λ c. search needs) (λ c κs. search needs) returns (λ c. search needs) (λ c. search needs) loop-again returns-2)

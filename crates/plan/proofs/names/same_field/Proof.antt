@@ -1,69 +1,59 @@
 use mathlib.Core.Path.{_≡_, sym, _∙_}
-use mathlib.Core.List.{List}
+use mathlib.Core.List.{List, _∷_}
 use Prim.Native.Nat.{ℕ, _+_, _-_, _≤_}
 use borrow.Author.Needs.{needs}
 use native.Mathlib.Omega.{arith}
-use lib.ListN.{getD, take, drop}
+use lib.ListN.{length, getD}
 use borrow.Author.Tests.{eq-eqb, ne-eqb}
-use Rattle.plan.specs.Names.{same}
-use Rattle.plan.proofs.Fields.{field-next, field-end}
+use Rattle.plan.specs.Lists.{same}
+use Rattle.plan.specs.Layout.{nameWidth}
+use Rattle.plan.specs.Inner.{sameFields}
+use Rattle.plan.proofs.Fields.{rest, rest-all, rest-next, rest-end}
 use Rattle.plan.proofs.names.same_field.Statement.{statement}
 use Rattle.plan.proofs.names.same_field.Tie as tie
 
 abbrev Inv-loop : tie.InvT-loop
-Inv-loop file a b k₀ k = (k ≤ 16) × (same (take 16 (drop a file)) (take 16 (drop b file)) ≡ same (take (16 - k) (drop (a + k) file)) (take (16 - k) (drop (b + k) file)))
+Inv-loop file a b k₀ k =
+    (k ≤ nameWidth) × (sameFields file a b ≡ same (rest file a nameWidth k) (rest file b nameWidth k))
 
 abbrev μ-loop : tie.MeasureT-loop
-μ-loop file a b k₀ k = 16 - k
+μ-loop file a b k₀ k = nameWidth - k
+
+-- the loop's turn at a byte of the field at an offset
+abbrev bytes : tie.At-loop Inv-loop μ-loop → List ℕ
+bytes l = l .before .args .file .now
+
+next : (c : tie.In-loop Inv-loop μ-loop) (at : ℕ) → let l = c .before in at + nameWidth ≤ length (bytes l)
+    → rest (bytes l) at nameWidth (l .loop .k) ≡ getD (bytes l) (at + l .loop .k) 0 ∷ rest (bytes l) at nameWidth (l .loop .k + 1)
+next c at h = rest-next (bytes (c .before)) at nameWidth (c .before .loop .k) (omega arith) h
 
 loop-holds : tie.Need-loop-holds Inv-loop μ-loop
 loop-holds c =
-    let e : c .args .a + 0 ≡ c .args .a = omega arith in
-    let f : c .args .b + 0 ≡ c .args .b = omega arith in
-    (omega arith, rw (e, f))
-
-add-if1 : tie.Need-add-if1 Inv-loop μ-loop
-add-if1 c = search needs
-
-shared-slice-read-if1 : tie.Need-shared-slice-read-if1 Inv-loop μ-loop
-shared-slice-read-if1 c = search needs
-
-add-if1-2 : tie.Need-add-if1-2 Inv-loop μ-loop
-add-if1-2 c = search needs
-
-shared-slice-read-if1-2 : tie.Need-shared-slice-read-if1-2 Inv-loop μ-loop
-shared-slice-read-if1-2 c = search needs
+    let s = c .args .file .now in (omega arith, rw (rest-all s (c .args .a) nameWidth, rest-all s (c .args .b) nameWidth))
 
 returns : tie.Need-returns Inv-loop μ-loop
 returns c =
-    let at-loop = c .before .before .before .before in
-    let start = at-loop .before in
-    let s : List ℕ = start .args .file .now in
-    let a : ℕ = start .args .a in
-    let b : ℕ = start .args .b in
-    let k : ℕ = at-loop .loop .k in
-    sym (at-loop .loop .inv .1 ∙ rw (field-next s a 16 k (omega arith) (omega arith), field-next s b 16 k (omega arith) (omega arith), ne-eqb (getD s (a + k) 0) (getD s (b + k) 0) (c .if1 .taken)))
-
-add-k : tie.Need-add-k Inv-loop μ-loop
-add-k c = search needs
-
-loop-less : tie.Need-loop-less Inv-loop μ-loop
-loop-less c = search needs
+    let i = c .before .before .before in
+    let s = i .before .before in
+    let differ = ne-eqb _ _ (c .if1 .taken) in
+    sym (i .before .loop .inv .1 ∙ rw (next i (s .args .a) (s .pre .0), next i (s .args .b) (s .pre .1), differ))
 
 loop-again : tie.Need-loop-again Inv-loop μ-loop
 loop-again c =
-    let at-loop = c .before .before .before .before in
-    let start = at-loop .before in
-    let s : List ℕ = start .args .file .now in
-    let a : ℕ = start .args .a in
-    let b : ℕ = start .args .b in
-    let k : ℕ = at-loop .loop .k in
-    (omega arith, at-loop .loop .inv .1 ∙ rw (field-next s a 16 k (omega arith) (omega arith), field-next s b 16 k (omega arith) (omega arith), eq-eqb (getD s (a + k) 0) (getD s (b + k) 0) (c .if1 .left)))
+    let i = c .before .before .before in
+    let s = i .before .before in
+    let agree = eq-eqb _ _ (c .if1 .left) in
+    (omega arith, i .before .loop .inv .1 ∙ rw (next i (s .args .a) (s .pre .0), next i (s .args .b) (s .pre .1), agree))
 
 returns-2 : tie.Need-returns-2 Inv-loop μ-loop
 returns-2 c =
-    let s : List ℕ = c .before .before .args .file .now in let k : ℕ = c .before .loop .k in
-    sym (c .before .loop .inv .1 ∙ rw (field-end (drop (c .before .before .args .a + k) s) 16 k (omega arith), field-end (drop (c .before .before .args .b + k) s) 16 k (omega arith)))
+    let l = c .before in
+    let a = l .before .args in
+    let k = l .loop .k in
+    sym (l .loop .inv .1 ∙ rw (rest-end (bytes l) (a .a) nameWidth k (omega arith), rest-end (bytes l) (a .b) nameWidth k (omega arith)))
 
 pub same-field-spec : {M : Type 1} → statement M
-same-field-spec = tie.close (tie.spec Inv-loop μ-loop loop-holds add-if1 shared-slice-read-if1 add-if1-2 shared-slice-read-if1-2 returns add-k loop-less loop-again returns-2)
+same-field-spec =
+    tie.close
+    (tie.spec Inv-loop μ-loop loop-holds (λ c. search needs) (λ c. search needs) (λ c. search needs)
+    (λ c. search needs) returns (λ c. search needs) (λ c. search needs) loop-again returns-2)

@@ -1,123 +1,111 @@
-use mathlib.Core.Path.{_≡_, refl, sym, ap, _∙_}
-use mathlib.Core.List.{List, [], _∷_, _++_}
-use Rattle.plan.specs.declared.rows.Row.the-variants.{Refused}
-use Rattle.plan.specs.Inner.{numberOf}
-use Prim.Native.Nat.{ℕ, _-_, _≤_}
 use borrow.Author.Needs.{needs}
-use native.Mathlib.Omega.{arith}
 use borrow.Author.Tests.{not-true, not-false}
-use Rattle.plan.specs.Faults.{firstFrom}
-use Rattle.plan.specs.Layout.{taskCount}
-use Rattle.plan.specs.Files.{taskOf, taskFault, tasksFault, tasksFrom}
-use Rattle.plan.specs.Promises.{Holds}
-use Rattle.plan.proofs.Decoding.{row-good, tasks-count, row-broken, name-broken, all-good, good-next, task-more}
+use native.Mathlib.Omega.{arith}
+use mathlib.Core.Path.{_≡_, sym, ap, _∙_}
+use mathlib.Core.List.{List}
+use Prim.Native.Nat.{ℕ, _+_, _-_, _*_, _≤_}
+use lib.ListN.{length}
+use Rattle.plan.specs.declared.rows.Row.the-variants.{Refused}
+use Rattle.plan.specs.Tasks.{rowAt}
+use Rattle.plan.specs.Layout.{rowWidth}
+use Rattle.plan.specs.Names.{nameField, nameOk}
+use Rattle.plan.specs.Files.{taskOf}
+use Rattle.plan.specs.Inner.{decoded, faultOfRow}
+use Rattle.plan.proofs.Decoding.{Decoding, row-start, row-inside, decoding-begins, decoding-next}
+use Rattle.plan.proofs.Decoding.{row-broken, name-broken, all-decoded}
 use Rattle.plan.proofs.reader.decode_tasks.Statement.{statement}
 use Rattle.plan.proofs.reader.decode_tasks.Tie as tie
 
 abbrev Inv-loop : tie.InvT-loop
-Inv-loop file n rows names plan₀ i₀ plan i = (i ≤ n) × ((tasksFault file ≡ firstFrom (taskFault file) (taskCount file - i) i) × Holds plan (tasksFrom file i 0))
+Inv-loop file areas n names table₀ i₀ table i = Decoding file table i
 
 abbrev μ-loop : tie.MeasureT-loop
-μ-loop file n rows names plan₀ i₀ plan i = n - i
+μ-loop file areas n names table₀ i₀ table i = n - i
 
-new-requires : tie.Need-new-requires Inv-loop μ-loop
-new-requires c κs = search needs
+-- the places that the needs look back to
+abbrev start : tie.At-loop Inv-loop μ-loop → tie.Start Inv-loop μ-loop
+start c = c .before .before
+
+abbrev bytes : tie.At-loop Inv-loop μ-loop → List ℕ
+bytes c = start c .args .file .now
+
+abbrev at-row : tie.After-row-at Inv-loop μ-loop → tie.At-loop Inv-loop μ-loop
+at-row c = c .before .before .before .before
+
+abbrev after-row : tie.After-name-ok Inv-loop μ-loop → tie.After-row Inv-loop μ-loop
+after-row c = c .before .before
+
+abbrev at-name : tie.After-name-ok Inv-loop μ-loop → tie.At-loop Inv-loop μ-loop
+at-name c = at-row (after-row c .before .before)
+
+-- task i's row and name
+inside : (c : tie.In-loop Inv-loop μ-loop)
+    → start (c .before) .args .areas .rows + start (c .before) .args .areas .«row_width» * c .before .loop .i + rowWidth (bytes (c .before))
+    ≤ length (bytes (c .before))
+inside c = row-inside (start (c .before) .pre) (c .before .loop .i) (search needs)
+
+row-is : (c : tie.After-row-at Inv-loop μ-loop)
+    → c .row-at .result ≡ decoded (taskOf (bytes (at-row c)) (at-row c .loop .i)) (at-row c .loop .i)
+row-is c =
+    let l = at-row c in
+    c .row-at .ensures ∙ ap (λ at. decoded (rowAt (bytes l) at) (l .loop .i)) (row-start (start l .pre) (l .loop .i))
+
+name-is : (c : tie.After-name-ok Inv-loop μ-loop)
+    → c .name-ok .result ≡ nameOk (nameField (bytes (at-name c)) (at-name c .loop .i))
+name-is c = rw (start (at-name c) .pre .names) at (c .name-ok .ensures)
 
 loop-holds : tie.Need-loop-holds Inv-loop μ-loop
-loop-holds c = let e : taskCount (c .before .before .args .file .now) - 0 ≡ taskCount (c .before .before .args .file .now) = omega arith in (omega arith, (rw e, c .new .ensures))
+loop-holds c = decoding-begins _
 
 mul-row-at : tie.Need-mul-row-at Inv-loop μ-loop
-mul-row-at c = search needs
+mul-row-at c = omega (arith, inside (c .before))
 
 add-row-at : tie.Need-add-row-at Inv-loop μ-loop
-add-row-at c = search needs
+add-row-at c = omega (arith, inside (c .before .before))
 
 row-at-requires : tie.Need-row-at-requires Inv-loop μ-loop
-row-at-requires c κs = search needs
-
-enum-known-row : tie.Need-enum-known-row Inv-loop μ-loop
-enum-known-row c = search needs
-
-enum-told : tie.Need-enum-told Inv-loop μ-loop
-enum-told c = search needs
-
-number-of-requires : tie.Need-number-of-requires Inv-loop μ-loop
-number-of-requires c κs = search needs
-
-add-refused : tie.Need-add-refused Inv-loop μ-loop
-add-refused c = search needs
-
-cast-refused : tie.Need-cast-refused Inv-loop μ-loop
-cast-refused c = search needs
-
-refused-requires : tie.Need-refused-requires Inv-loop μ-loop
-refused-requires c κs = search needs
+row-at-requires c κs = (inside (c .before .before), search needs)
 
 returns : tie.Need-returns Inv-loop μ-loop
 returns c =
-    let after-row-at = c .before .before .before .before in
-    let at-loop = after-row-at .before .before in
-    let start = at-loop .before .before .before in
-    let s : List ℕ = start .args .file .now in let g = c .before .before .enum-told .given in
-    let e = rw (start .pre .rows) at (after-row-at .row-at .ensures) in
-    row-broken s (at-loop .loop .i) (c .refused .result) (at-loop .loop .inv .1 .0) (c .before .number-of .result) (omega arith) (ap Refused (c .before .number-of .ensures ∙ ap numberOf (g .1)) ∙ sym (g .1) ∙ e) (c .refused .ensures)
-
-mul-name-ok : tie.Need-mul-name-ok Inv-loop μ-loop
-mul-name-ok c = search needs
-
-add-name-ok : tie.Need-add-name-ok Inv-loop μ-loop
-add-name-ok c = search needs
-
-name-ok-requires : tie.Need-name-ok-requires Inv-loop μ-loop
-name-ok-requires c κs = search needs
-
-add-refused-2 : tie.Need-add-refused-2 Inv-loop μ-loop
-add-refused-2 c = search needs
-
-cast-refused-2 : tie.Need-cast-refused-2 Inv-loop μ-loop
-cast-refused-2 c = search needs
-
-refused-requires-2 : tie.Need-refused-requires-2 Inv-loop μ-loop
-refused-requires-2 c κs = search needs
+    let row = c .before .before .before .before in
+    let told = c .before .before .enum-told .given .1 in
+    let l = at-row row in
+    let f = c .before .row-fault in
+    row-broken (bytes l) (l .loop .table) (l .loop .i) (l .loop .inv) (c .refused .result) (f .result) (search needs)
+    (ap Refused (f .ensures ∙ ap faultOfRow told) ∙ sym told ∙ row-is row) (c .refused .ensures)
 
 returns-2 : tie.Need-returns-2 Inv-loop μ-loop
 returns-2 c =
-    let after-row = c .before .before .before .before in
-    let after-row-at = after-row .before .before in
-    let at-loop = after-row-at .before .before in
-    let start = at-loop .before .before .before in
-    let s : List ℕ = start .args .file .now in let g = after-row .row .given in
-    let e = rw (start .pre .rows) at (after-row-at .row-at .ensures) in
-    name-broken s (at-loop .loop .i) (c .refused2 .result) (at-loop .loop .inv .1 .0) (g .0 .0) (omega arith) (sym (g .1) ∙ e) (rw (start .pre .names) at (sym (c .before .before .name-ok .ensures) ∙ not-true _ (c .before .if1 .taken))) (c .refused2 .ensures)
-
-with-task-requires : tie.Need-with-task-requires Inv-loop μ-loop
-with-task-requires c κs =
-    let at-loop = c .before .before .before .before .before .before .before in
-    let start = at-loop .before .before .before in
-    omega (arith, at-loop .loop .inv .1 .1 .count, tasks-count (start .args .file .now) (at-loop .loop .i) 0)
-
-add-i : tie.Need-add-i Inv-loop μ-loop
-add-i c = search needs
-
-loop-less : tie.Need-loop-less Inv-loop μ-loop
-loop-less c = search needs
+    let name = c .before .before in
+    let row = after-row name in
+    let l = at-name name in
+    name-broken (bytes l) (l .loop .table) (l .loop .i) (l .loop .inv) (c .refused2 .result) (row .row .given .0 .0) (search needs)
+    (sym (row .row .given .1) ∙ row-is (row .before .before))
+    (sym (name-is name) ∙ not-true _ (c .before .if1 .taken)) (c .refused2 .ensures)
 
 loop-again : tie.Need-loop-again Inv-loop μ-loop
 loop-again c =
-    let after-row = c .before .before .before .before in
-    let after-row-at = after-row .before .before in
-    let at-loop = after-row-at .before .before in
-    let start = at-loop .before .before .before in
-    let s : List ℕ = start .args .file .now in
-    let i : ℕ = at-loop .loop .i in
-    let g = after-row .row .given in
-    let e = rw (start .pre .rows) at (after-row-at .row-at .ensures) in let u = g .0 .0 in
-    let b = row-good (taskOf s i) i u (sym (g .1) ∙ e) in
-    let h : Holds (c .with-task .result) (tasksFrom s i 0 ++ (u ∷ [])) = c .with-task .ensures (tasksFrom s i 0) (at-loop .loop .inv .1 .1) in
-    (omega arith, (at-loop .loop .inv .1 .0 ∙ good-next s i u (omega arith) (sym (g .1) ∙ e) (rw (start .pre .names) at (sym (c .before .before .name-ok .ensures) ∙ not-false _ (c .before .if1 .left))), rw (task-more s i u (b .0)) at h))
+    let written = c .before in
+    let name = written .before .before .before in
+    let row = after-row name in
+    let l = at-name name in
+    decoding-next (bytes l) (l .loop .table) (l .loop .i) (l .loop .inv) (row .row .given .0 .0) (written .write-row .last .0)
+    (start l .pre .few) (search needs) (sym (row .row .given .1) ∙ row-is (row .before .before))
+    (sym (name-is name) ∙ not-false _ (written .before .before .if1 .left)) (written .write-row .ensures)
 
 returns-3 : tie.Need-returns-3 Inv-loop μ-loop
-returns-3 c = all-good (c .before .before .before .before .args .file .now) (c .before .loop .i) _ (c .before .loop .inv .1 .0) (omega arith) refl refl (c .before .loop .inv .1 .1)
+returns-3 c =
+    let l = c .before .before .before in
+    all-decoded (bytes l) (l .loop .table) (l .loop .i) (l .loop .inv) _ (start l .args .areas .tasks) (start l .pre .tasks)
+    (search needs) (c .before .none .ensures) (c .new .ensures) (start l .pre .names)
 
 pub decode-tasks-spec : {M : Type 1} → statement M
-decode-tasks-spec = tie.close (tie.spec Inv-loop μ-loop new-requires loop-holds mul-row-at add-row-at row-at-requires enum-known-row enum-told number-of-requires add-refused cast-refused refused-requires returns mul-name-ok add-name-ok name-ok-requires add-refused-2 cast-refused-2 refused-requires-2 returns-2 with-task-requires add-i loop-less loop-again returns-3)
+decode-tasks-spec =
+    tie.close
+    (tie.spec Inv-loop μ-loop loop-holds mul-row-at add-row-at row-at-requires (λ c. search needs) (λ c. search needs)
+    (λ c κs. search needs) (λ c κs. search needs) returns (λ c. search needs) (λ c. search needs)
+    (λ c κs. search needs) (λ c. search needs) (λ c. search needs) (λ c κs. search needs) returns-2 (λ c. search needs)
+    (λ c. search needs) (λ c. search needs) (λ c. search needs) (λ c. search needs) (λ c. search needs)
+    (λ c κs. search needs) (λ c. search needs) (λ c. search needs) loop-again (λ c κs. search needs)
+    (λ c κs. search needs) returns-3)

@@ -1,104 +1,95 @@
-use mathlib.Core.Path.{_≡_, sym, _∙_}
+use borrow.Author.Needs.{needs}
+use mathlib.Core.Path.{_≡_, sym, ap, _∙_}
 use mathlib.Core.List.{List}
 use Prim.Native.Nat.{ℕ}
-use borrow.Author.Needs.{needs}
-use native.Mathlib.Omega.{arith}
-use borrow.Author.Tests.{le-leb}
-use Rattle.plan.specs.Faults.{fault, none}
-use Rattle.plan.specs.Files.{layoutFault, gapFault, tasksFault, sameNameFault}
-use Rattle.plan.specs.Inner.{AreasOf}
-use Rattle.plan.proofs.Fields.{ne-zero}
-use Rattle.plan.proofs.Loading.{located, unlocated, at-layout, at-gap, at-tasks, at-names, loads-refused, loads-broken, loads-all}
+use Rattle.plan.specs.declared.layout.Layout.the-variants.{Broken}
+use Rattle.plan.specs.Files.{layoutFault, gapFault, tasksFault}
+use Rattle.plan.specs.Inner.{AreasOf, faultOfLayout}
+use Rattle.plan.proofs.Header.{located, unlocated}
+use Rattle.plan.proofs.Loading.{at-layout, at-gap, at-tasks, at-names, all-pass, loads-refused, loads-broken, loads-all}
 use Rattle.plan.proofs.reader.load_plan.Statement.{statement}
 use Rattle.plan.proofs.reader.load_plan.Tie as tie
 
--- the areas that the layout's answer carries
-areas : (c : tie.After-known-told) → AreasOf (c .before .before .before .before .before .args .file .now) (c .before .layout .given .0 .0) × (layoutFault (c .before .before .before .before .before .args .file .now) .number ≡ 0)
-areas c =
-    let after-layout-of = c .before .before .before in
-    let start = after-layout-of .before .before in
-    located (start .args .file .now) (c .before .layout .given .0 .0) (sym (c .before .layout .given .1) ∙ after-layout-of .layout-of .ensures)
+-- the places that the needs look back to
+abbrev bytes : tie.After-layout-of → List ℕ
+bytes c = c .before .before .args .file .now
 
-no-gap : (c : tie.Else1) → gapFault (c .before .before .before .before .before .before .before .args .file .now) ≡ none
-no-gap c = rw (c .if1 .left) at (c .before .stray-byte .ensures .0)
+abbrev laid : tie.After-known-told → tie.After-layout-of
+laid c = c .before .before .before
 
-layout-of-requires : tie.Need-layout-of-requires
-layout-of-requires c κs = search needs
+abbrev told : tie.Else1 → tie.After-known-told
+told c = c .before .before .before
 
-enum-known-layout : tie.Need-enum-known-layout
-enum-known-layout c = search needs
+abbrev decoded : tie.Else2 → tie.After-decode-tasks
+decoded c = c .before .before
 
-enum-told : tie.Need-enum-told
-enum-told c = search needs
+-- what is known once a rule has passed
+areas : (c : tie.After-known-told)
+    → AreasOf (bytes (laid c)) (c .before .layout .given .0 .0) × (layoutFault (bytes (laid c)) .number ≡ 0)
+areas c = located (bytes (laid c)) (c .before .layout .given .0 .0) (sym (c .before .layout .given .1) ∙ laid c .layout-of .ensures)
 
-layout-refused-requires : tie.Need-layout-refused-requires
-layout-refused-requires c κs = search needs
+no-gap : (c : tie.Else1) → gapFault (bytes (laid (told c))) .number ≡ 0
+no-gap c = sym (ap (λ f. f .number) (c .before .before .stray-byte .ensures)) ∙ c .if1 .left
+
+tasks-pass : (c : tie.Else2) → tasksFault (bytes (laid (told (decoded c .before)))) .number ≡ 0
+tasks-pass c = sym (ap (λ f. f .number) (decoded c .decode-tasks .ensures .fault)) ∙ c .if2 .left
 
 returns : tie.Need-returns
 returns c =
-    let after-layout-of = c .before .before .before in
-    let start = after-layout-of .before .before in
-    let s : List ℕ = start .args .file .now in let g = c .before .enum-told .given in
-    let u = unlocated s (g .0 .0) (g .0 .1 .0) (sym (g .1) ∙ after-layout-of .layout-of .ensures) in
-    loads-refused s (g .0 .0) (g .0 .1 .0) (c .layout-refused .result) (at-layout s (g .0 .0) (g .0 .1 .0) (u .1) (u .0)) (u .0) (rw (g .1) at (c .layout-refused .ensures))
+    let laid = c .before .before .before .before in
+    let g = c .before .before .enum-told .given .1 in
+    let f = c .before .layout-fault in
+    let u = unlocated (bytes laid) (f .result) (ap Broken (f .ensures ∙ ap faultOfLayout g) ∙ sym g ∙ laid .layout-of .ensures) in
+    loads-refused (bytes laid) (c .refused .result) (u .0) (at-layout (bytes laid) (u .0) (sym (u .1))) (c .refused .ensures)
 
 stray-byte-requires : tie.Need-stray-byte-requires
 stray-byte-requires c κs = areas c .0
 
-cast-refused : tie.Need-cast-refused
-cast-refused c = omega (arith, areas (c .before .before) .0 .short)
-
-refused-requires : tie.Need-refused-requires
-refused-requires c κs = search needs
-
 returns-2 : tie.Need-returns-2
 returns-2 c =
-    let after-known-told = c .before .before .before in
-    let start = after-known-told .before .before .before .before .before in
-    let s : List ℕ = start .args .file .now in let k : ℕ = c .before .before .stray-byte .result in
-    let e : gapFault s ≡ fault 7 k = rw (le-leb 1 k (ne-zero k (c .before .if1 .taken))) at (c .before .before .stray-byte .ensures .0) in
-    loads-refused s 7 k (c .refused .result) (at-gap s (areas after-known-told .1) 7 k e (λ z. omega arith)) (λ z. omega arith) (c .refused .ensures)
+    let stray = c .before .before .before in
+    let s = bytes (laid (stray .before)) in
+    let h = c .before .if1 .taken in
+    loads-refused s (c .refused2 .result) h (at-gap s h (areas (stray .before) .1) (stray .stray-byte .ensures)) (c .refused2 .ensures)
 
 decode-tasks-requires : tie.Need-decode-tasks-requires
-decode-tasks-requires c κs = areas (c .before .before) .0
+decode-tasks-requires c κs = areas (told c) .0
 
 returns-3 : tie.Need-returns-3
 returns-3 c =
-    let else1 = c .before .before .before in
-    let after-known-told = else1 .before .before in
-    let start = after-known-told .before .before .before .before .before in
-    let s : List ℕ = start .args .file .now in let d = c .before .before .decode-tasks in
-    loads-broken s (d .result) (at-tasks s (areas after-known-told .1) (no-gap else1) (λ z. c .if2 .taken (d .ensures .number ∙ z))) (d .ensures)
+    let d = c .before .before in
+    let told = told (d .before) in
+    let s = bytes (laid told) in
+    let h = c .if2 .taken in
+    loads-broken s (d .decode-tasks .result) h (at-tasks s h (areas told .1) (no-gap (d .before)) (d .decode-tasks .ensures .fault))
+    (d .decode-tasks .ensures)
 
 repeated-name-requires : tie.Need-repeated-name-requires
-repeated-name-requires c κs = areas (c .before .before .before .before .before) .0
-
-refused-requires-2 : tie.Need-refused-requires-2
-refused-requires-2 c κs = search needs
+repeated-name-requires c κs = areas (told (decoded c .before)) .0
 
 returns-4 : tie.Need-returns-4
 returns-4 c =
-    let else2 = c .before .before .before in
-    let after-decode-tasks = else2 .before .before in
-    let else1 = after-decode-tasks .before in
-    let after-known-told = else1 .before .before in
-    let start = after-known-told .before .before .before .before .before in
-    let s : List ℕ = start .args .file .now in
-    let k : ℕ = c .before .before .repeated-name .result in
-    let d = after-decode-tasks .decode-tasks in
-    let e : sameNameFault s ≡ fault 11 k = rw (le-leb 1 k (ne-zero k (c .before .if3 .taken))) at (c .before .before .repeated-name .ensures) in
-    loads-refused s 11 k (c .refused2 .result) (at-names s (areas after-known-told .1) (no-gap else1) (sym (d .ensures .number) ∙ else2 .if2 .left) ∙ rw e) (λ z. omega arith) (c .refused2 .ensures)
+    let repeated = c .before .before .before in
+    let else1 = decoded (repeated .before) .before in
+    let s = bytes (laid (told else1)) in
+    let h = c .before .if3 .taken in
+    loads-refused s (c .refused3 .result) h
+    (at-names s h (areas (told else1) .1) (no-gap else1) (tasks-pass (repeated .before)) (repeated .repeated-name .ensures))
+    (c .refused3 .ensures)
 
 returns-5 : tie.Need-returns-5
 returns-5 c =
-    let after-decode-tasks = c .before .before .before .before in
-    let else1 = after-decode-tasks .before in
-    let after-known-told = else1 .before .before in
-    let start = after-known-told .before .before .before .before .before in
-    let s : List ℕ = start .args .file .now in let d = after-decode-tasks .decode-tasks in
-    let e : sameNameFault s ≡ none = rw (c .if3 .left) at (c .before .repeated-name .ensures) in
-    let t : tasksFault s .number ≡ 0 = sym (d .ensures .number) ∙ c .before .before .if2 .left in
-    loads-all s (d .result) (at-names s (areas after-known-told .1) (no-gap else1) t ∙ rw e) t (d .ensures)
+    let repeated = c .before .before in
+    let d = decoded (repeated .before) in
+    let s = bytes (laid (told (d .before))) in
+    let t = tasks-pass (repeated .before) in
+    let n = sym (ap (λ f. f .number) (repeated .repeated-name .ensures)) ∙ c .if3 .left in
+    loads-all s (d .decode-tasks .result) (all-pass s (areas (told (d .before)) .1) (no-gap (d .before)) t n) t
+    (d .decode-tasks .ensures)
 
 pub load-plan-spec : {M : Type 1} → statement M
-load-plan-spec = tie.close (tie.spec layout-of-requires enum-known-layout enum-told layout-refused-requires returns stray-byte-requires cast-refused refused-requires returns-2 decode-tasks-requires returns-3 repeated-name-requires refused-requires-2 returns-4 returns-5)
+load-plan-spec =
+    tie.close
+    (tie.spec (λ c κs. search needs) (λ c. search needs) (λ c. search needs) (λ c κs. search needs)
+    (λ c κs. search needs) returns stray-byte-requires (λ c κs. search needs) returns-2 decode-tasks-requires returns-3
+    repeated-name-requires (λ c κs. search needs) returns-4 returns-5)

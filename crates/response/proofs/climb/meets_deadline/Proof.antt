@@ -4,11 +4,8 @@ use lib.Dec.{leb}
 use Rattle.response.proofs.climb.meets_deadline.Statement.{statement}
 use Rattle.response.proofs.climb.meets_deadline.Tie as tie
 
-response-time-requires : tie.Need-response-time-requires
-response-time-requires c κs = search needs
-
 returns : tie.Need-returns
 returns c = ap (leb 1) (c .response-time .ensures)
 
 pub meets-deadline-spec : {M : Type 1} → statement M
-meets-deadline-spec = tie.close (tie.spec response-time-requires returns)
+meets-deadline-spec = tie.close (tie.spec (λ c κs. search needs) returns)

@@ -1,73 +1,48 @@
-use mathlib.Core.Path.{_≡_}
-use mathlib.Core.List.{List}
-use Prim.Native.Nat.{ℕ, _-_, _≤_}
+use mathlib.Core.Path.{_≡_, _∙_}
+use Prim.Native.Nat.{_-_, _≤_}
 use borrow.Author.Needs.{needs}
 use native.Mathlib.Omega.{arith}
 use lib.ListN.{length, length-set}
-use Rattle.response.specs.Analysis.{timing}
+use Rattle.plan.specs.Table.{tasksIn}
 use Rattle.response.proofs.Answers.{Written, written-more, all-written}
 use Rattle.response.proofs.times.analyse.Statement.{statement}
 use Rattle.response.proofs.times.analyse.Tie as tie
 
 abbrev Inv-loop : tie.InvT-loop
-Inv-loop wcet deadline-cap periods times₀ i₀ times i = (length times ≡ length wcet) × ((i ≤ length times) × Written (timing wcet deadline-cap) periods times i)
+Inv-loop tasks periods times₀ i₀ times i =
+    (length times ≡ length periods) × ((i ≤ length times) × Written (tasksIn tasks) periods times i)
 
 abbrev μ-loop : tie.MeasureT-loop
-μ-loop wcet deadline-cap periods times₀ i₀ times i = length wcet - i
+μ-loop tasks periods times₀ i₀ times i = length periods - i
+
+abbrev start : tie.At-loop Inv-loop μ-loop → tie.Start Inv-loop μ-loop
+start l = l .before .before .before .before
 
 loop-holds : tie.Need-loop-holds Inv-loop μ-loop
 loop-holds c = (search needs, (omega arith, λ k h. omega arith))
 
 response-time-requires : tie.Need-response-time-requires Inv-loop μ-loop
-response-time-requires c κs =
-    let s = c .before .before .before .before .before .before in
-    (s .pre .0, (omega arith, omega arith))
-
-mul-times : tie.Need-mul-times Inv-loop μ-loop
-mul-times c = search needs
-
-slice-write-times : tie.Need-slice-write-times Inv-loop μ-loop
-slice-write-times c = search needs
-
-add-i : tie.Need-add-i Inv-loop μ-loop
-add-i c = search needs
-
-loop-less : tie.Need-loop-less Inv-loop μ-loop
-loop-less c = search needs
+response-time-requires c κs = (start (c .before) .pre .0, omega arith)
 
 loop-again : tie.Need-loop-again Inv-loop μ-loop
 loop-again c =
-    let start = c .before .before .before .before .before .before .before in
-    let a = start .args in
-    let v = c .before .before .loop .inv in
-    let o : List ℕ = c .before .before .loop .times in
-    let i : ℕ = c .before .before .loop .i in
-    (simp length-set (v .0), (simp length-set (omega arith), written-more (timing (a .wcet .now) (a .deadline-cap .now)) (a .periods .now) o i (c .response-time .result) (omega arith) (c .response-time .ensures) (v .1 .1)))
-
-same-length : tie.Need-same-length Inv-loop μ-loop
-same-length c = search needs
+    let l = c .before .before in
+    let a = start l .args in
+    let v = l .loop .inv in
+    let r = c .response-time in
+    let more = written-more (tasksIn (a .tasks .now)) (a .periods .now) (l .loop .times) (l .loop .i) (r .result) in
+    (simp length-set (v .0), (simp length-set (omega arith), more (omega arith) (r .ensures) (v .1 .1)))
 
 returns : tie.Need-returns Inv-loop μ-loop
 returns c =
-    let start = c .before .before .before .before .before .before in
-    let a = start .args in
-    let o : List ℕ = c .before .loop .times in
-    let v = c .before .loop .inv in
-    let e : c .before .loop .i ≡ length o = omega arith in
-    all-written (timing (a .wcet .now) (a .deadline-cap .now)) (a .periods .now) o (v .0) (rw e at (v .1 .1))
+    let l = c .before in
+    let a = start l .args in
+    let v = l .loop .inv in
+    let e : l .loop .i ≡ length (l .loop .times) = omega arith in
+    all-written (tasksIn (a .tasks .now)) (a .periods .now) (l .loop .times) (v .0 ∙ start l .pre .0 .sized) (rw e at (v .1 .1))
 
 pub analyse-spec : {M : Type 1} → statement M
 analyse-spec =
     tie.close
-    (tie.spec
-    Inv-loop
-    μ-loop
-    loop-holds
-    response-time-requires
-    mul-times
-    slice-write-times
-    add-i
-    loop-less
-    loop-again
-    same-length
-    returns)
+    (tie.spec Inv-loop μ-loop loop-holds response-time-requires (λ c. search needs) (λ c. search needs)
+    (λ c. search needs) (λ c. search needs) loop-again (λ c. search needs) returns)

@@ -19,26 +19,14 @@ abbrev μ-loop : tie.MeasureT-loop
 loop-holds : tie.Need-loop-holds Inv-loop μ-loop
 loop-holds c = (omega arith, omega arith)
 
-mul-if1 : tie.Need-mul-if1 Inv-loop μ-loop
-mul-if1 c = search needs
-
-shared-slice-read-if1 : tie.Need-shared-slice-read-if1 Inv-loop μ-loop
-shared-slice-read-if1 c = search needs
-
-add-count : tie.Need-add-count Inv-loop μ-loop
-add-count c = search needs
-
-add-i : tie.Need-add-i Inv-loop μ-loop
-add-i c = search needs
-
-loop-less : tie.Need-loop-less Inv-loop μ-loop
-loop-less c = search needs
-
 loop-again : tie.Need-loop-again Inv-loop μ-loop
 loop-again c =
     let rs : List ℕ = c .before .before .before .before .args .times .now in
     let i : ℕ = c .before .before .before .loop .i in
-    ⊎-elim (λ w. (omega (arith, count-miss rs i (omega arith) (w .0 .taken)), omega arith)) (λ w. (omega (arith, count-meet rs i (omega arith) (w .0 .left)), omega arith)) (c .if1 .came)
+    ⊎-elim
+    (λ w. (omega (arith, count-miss rs i (omega arith) (w .0 .taken)), omega arith))
+    (λ w. (omega (arith, count-meet rs i (omega arith) (w .0 .left)), omega arith))
+    (c .if1 .came)
 
 returns : tie.Need-returns Inv-loop μ-loop
 returns c =
@@ -49,14 +37,5 @@ returns c =
 pub missed-count-spec : {M : Type 1} → statement M
 missed-count-spec =
     tie.close
-    (tie.spec
-    Inv-loop
-    μ-loop
-    loop-holds
-    mul-if1
-    shared-slice-read-if1
-    add-count
-    add-i
-    loop-less
-    loop-again
-    returns)
+    (tie.spec Inv-loop μ-loop loop-holds (λ c. search needs) (λ c. search needs) (λ c. search needs)
+    (λ c. search needs) (λ c. search needs) loop-again returns)

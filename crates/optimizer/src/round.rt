@@ -1,0 +1,55 @@
+ghost use Rattle.plan.specs.Tasks.{periodMaxs};
+ghost use lib.ListN.{length};
+ghost use Rattle.plan.specs.Table.{tasksIn};
+ghost use Rattle.response.specs.Analysis.{schedulable};
+ghost use Rattle.optimizer.specs.Mua.{mua};
+ghost use Rattle.optimizer.specs.Search.{rule};
+ghost use Rattle.optimizer.specs.Raising.{Unschedulable};
+ghost use Rattle.optimizer.specs.Inner.{HasRoom, Above, Lists, Ready, Rounds};
+use super::children;
+use super::children::Step;
+use super::mua;
+use super::nodes;
+use super::order;
+use plan::Plan;
+use response::is_schedulable;
+
+// What a round comes to, and the node that it took off, with its cost.
+pub struct Round {
+    pub step: Step,
+    pub cost: u64,
+    pub node: [u32; Plan::MAX_TASKS],
+}
+
+// Lists the children of an unschedulable node that was taken off.
+fn branch(tasks: &[u32], work: &mut [u32], count: usize, room: usize, node: &[u32]) -> Step
+    requires { ⌜ (let ts = tasksIn (now tasks) in let p = now node in Unschedulable ts p
+        × (HasRoom (now work) count room p × Above p (mua (schedulable ts) (periodMaxs ts) p))) ⌝ }
+    ensures { λ r. ⌜ (let ts = tasksIn (now (tasks .entry)) in let p = now (node .entry) in
+        Lists (periodMaxs ts) p (mua (schedulable ts) (periodMaxs ts) p)
+        count room (now (work .entry)) (now (work .exit)) r) ⌝ }
+{
+    let u = mua::mua(tasks, node);
+    let n = node.len();
+    children::expand(tasks, work, count, room, node, &u[..n])
+}
+
+// One round: the least node is the answer, or its children are listed.
+pub fn run_round(tasks: &[u32], work: &mut [u32], count: usize, room: usize) -> Round
+    requires { ⌜ Ready (tasksIn (now tasks)) (now work) count room ⌝ }
+    ensures { λ r. ⌜ (let ts = tasksIn (now (tasks .entry)) in
+        Rounds (rule ts (schedulable ts)) tt (length ts) count room (now (work .entry)) (now (work .exit)) r) ⌝ }
+{
+    let n = plan::task_count(tasks);
+    let node = nodes::take_least(work, tasks, count);
+    let cost = order::cost_of(tasks, &node[..n]);
+    if is_schedulable(tasks, &node[..n]) {
+        return Round {
+            step: Step::Answered,
+            cost,
+            node,
+        };
+    }
+    let step = branch(tasks, work, count - 1, room, &node[..n]);
+    Round { step, cost, node }
+}

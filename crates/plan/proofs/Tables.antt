@@ -1,0 +1,46 @@
+-- Tables of rows, and the tasks that they hold.
+use mathlib.Core.Path.{_≡_}
+use mathlib.Core.List.{List, [], _∷_, _++_}
+use Prim.Native.Nat.{ℕ, suc, _+_, _*_, _/_, _≤_, _<_}
+use native.Mathlib.Omega.{arith}
+use lib.ListN.{length, getD, length-append, List·getD-append}
+use lib.Seq.{getD-append-seam, getD-append-add}
+use Rattle.plan.specs.declared.record.Task.{Task}
+use Rattle.plan.specs.Tasks.{noTask, taskAt}
+use Rattle.plan.specs.Table.{rowFields, rowOf, taskIn, tasksIn}
+use Rattle.plan.proofs.Lists.{tabulate-length, tabulate-at, tabulate-more, tabulate-same}
+
+module _ (table : List ℕ) where
+  pub tasks-in-length : length (tasksIn table) ≡ length table / rowFields
+  unfolding tasksIn
+  tasks-in-length = tabulate-length (taskIn table) (length table / rowFields) 0
+
+  module _ (i : ℕ) (h : i < length (tasksIn table)) where
+    pub rows-long : rowFields * i + rowFields ≤ length table
+    rows-long = omega (arith, tasks-in-length)
+
+    pub task-in : taskAt (tasksIn table) i ≡ taskIn table i
+    unfolding tasksIn
+    task-in =
+        let e : 0 + i ≡ i = omega arith in
+        rw e at (tabulate-at (taskIn table) (length table / rowFields) 0 i noTask (omega (arith, tasks-in-length)))
+
+-- a row behind k others
+module _ (xs : List ℕ) (t : Task) (k : ℕ) (long : length xs ≡ rowFields * k) where
+  row-at-end : taskIn (xs ++ rowOf t) k ≡ t
+  row-at-end = rw (← long) (simp (getD-append-seam, getD-append-add))
+
+  rows-before : (i : ℕ) → i < k → taskIn (xs ++ rowOf t) i ≡ taskIn xs i
+  rows-before i h =
+      let at : (j : ℕ) → j < length xs → getD (xs ++ rowOf t) j 0 ≡ getD xs j 0 = λ j l. List·getD-append xs (rowOf t) 0 j l in
+      let f = rowFields * i in
+      rw (at f (omega arith), at (f + 1) (omega arith), at (f + 2) (omega arith), at (f + 3) (omega arith), at (f + 4) (omega arith))
+
+  pub tasks-append : tasksIn (xs ++ rowOf t) ≡ tasksIn xs ++ (t ∷ [])
+  unfolding tasksIn
+  tasks-append =
+      let a : length (xs ++ rowOf t) / rowFields ≡ suc k = simp length-append (omega arith) in
+      let b : length xs / rowFields ≡ k = omega arith in
+      let e : 0 + k ≡ k = omega arith in
+      let same = tabulate-same (taskIn (xs ++ rowOf t)) (taskIn xs) k 0 (λ i p q. rows-before i (omega arith)) in
+      rw (a, b, tabulate-more (taskIn (xs ++ rowOf t)) k 0, e, row-at-end, same)

@@ -1,0 +1,17 @@
+-- Lists by index, and their equality.
+use mathlib.Core.Bool.{Bool, true, false, _&&_}
+use mathlib.Core.List.{List, [], _∷_}
+use Prim.Native.Nat.{ℕ, zero, suc}
+use lib.Dec.{eqb}
+
+-- f i, f (i + 1), .., so many
+abbrev pub tabulate : {A : Type 0} → (ℕ → A) → ℕ → ℕ → List A
+tabulate f zero i = []
+tabulate f (suc left) i = f i ∷ tabulate f left (suc i)
+
+-- equality of two lists of numbers
+abbrev pub same : List ℕ → List ℕ → Bool
+same [] [] = true
+same [] (y ∷ ys) = false
+same (x ∷ xs) [] = false
+same (x ∷ xs) (y ∷ ys) = eqb x y && same xs ys
