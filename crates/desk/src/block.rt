@@ -41,7 +41,8 @@ fn put_answer(block: &mut [u8], answer: Answer, tasks: u32)
 // The whole block: an answer with its count of tasks and sixteen periods.
 pub fn write_block(block: &mut [u8], answer: Answer, tasks: u32, periods: &[u32])
     requires { ⌜ (length (now block) ≡ blockSize) × (length (now periods) ≡ maxTasks) ⌝ }
-    ensures { λ _. ⌜ Writes (record { answer = answer; tasks = tasks; periods = now (periods .entry) }) (now (block .exit)) ⌝ }
+    ensures { λ _. ⌜ Writes (record { answer = answer; tasks = tasks; periods = now (periods .entry) })
+        (now (block .exit)) ⌝ }
 {
     put_answer(block, answer, tasks);
     put_words(block, PERIODS_AT, periods);

@@ -34,7 +34,8 @@ pub(crate) fn lesser(a: u32, b: u32) -> u32 {
     if a < b { a } else { b }
 }
 
-// The response time by the clock: tick by tick, until all work released before the tick's end is done; 0 past the deadline.
+// The response time by the clock: tick by tick, until all work released before the tick's end is done; 0 past the
+// deadline.
 fn finish(rows: &[u32], periods: &[u32], task: usize) -> u32 {
     let deadline = lesser(at(periods, task), column(rows, task, 3));
     let mut work = column(rows, task, 0);

@@ -248,7 +248,8 @@ fn room(sequence: &[u32], k: usize, rows: &[u32]) -> usize {
     }
 }
 
-// Compares CHEAPEST with the enumeration in run k of four: with enough budget and room, with little of the one, the other and both.
+// Compares CHEAPEST with the enumeration in run k of four: with enough budget and room, with little of the one, the
+// other and both.
 pub(crate) fn compare(
     sequence: &[u32],
     k: usize,

@@ -17,7 +17,7 @@ use Rattle.optimizer.specs.Search.{children, rule, start}
 use Rattle.optimizer.specs.Promises.{callFault, infeasibleFault, Outcome, refused, outcomeOf, outcome}
 
 abbrev answered : List ℕ → ℕ → ℕ → Outcome
-answered xs price rounds = record { answer = record { fault = none; cost = price; rounds = rounds; bound = 0 }; periods = xs }
+answered xs total rounds = record { answer = record { fault = none; cost = total; rounds = rounds; bound = 0 }; periods = xs }
 
 abbrev stopped : ℕ → ℕ → ℕ → Outcome
 stopped number bound rounds =

@@ -12,7 +12,6 @@ pub mod Branching  -- the children of a node
 pub mod Guarantees  -- what the search by a lawful rule comes to
 pub mod Running  -- the search while it runs
 pub mod Settled  -- demand 3
-mod Fill  -- lists filled from the front
 mod Space  -- nodes in the work space
 mod Scans  -- cost, order and the least node, one at a time
 mod Drop  -- children that open nodes drop

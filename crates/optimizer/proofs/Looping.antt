@@ -81,22 +81,22 @@ module _ {ts : List Task} {test : List ℕ → Bool} {R : Rule} {Carried : R .St
       abbrev then : ℕ → List (List ℕ)
       then m = nodes m (length ts) w
 
-      pub round-node : {n : ℕ} → n ≡ length ts → n ≡ length (take n (d .node))
+      pub round-node : {n : ℕ} → n ≡ length ts → n ≡ length (take n (d .node .periods))
       round-node e = rw e (sym (ap length (y .node) ∙ running-within (g .running) .sized))
 
-      pub ends-answered : d .step ≡ Answered → {n : ℕ} → n ≡ length ts → {o o′ : List ℕ} {r : Answer} → o′ ≡ take n (d .node)
-          → r ≡ record { fault = none; cost = d .cost; rounds = rounds + 1; bound = 0 }
+      pub ends-answered : d .step ≡ Answered → {n : ℕ} → n ≡ length ts → {o o′ : List ℕ} {r : Answer} → o′ ≡ take n (d .node .periods)
+          → r ≡ record { fault = none; cost = d .node .cost; rounds = rounds + 1; bound = 0 }
           → Ends (searched (R .weights) goal) o o′ r
       ends-answered e en eo er =
           rw (running-answered (g .running) h then (rw e at (y .goes)))
-          (record { answer = rw (er, y .cost, add-one rounds); periods = rw en at eo ∙ y .node })
+          (record { answer = rw (er, y .costs, add-one rounds); periods = rw en at eo ∙ y .node })
 
       pub ends-full : d .step ≡ Full → {o o′ : List ℕ} {r : Answer} → o′ ≡ o
-          → r ≡ record { fault = fault 34 0; cost = 0; rounds = rounds + 1; bound = d .cost }
+          → r ≡ record { fault = fault 34 0; cost = 0; rounds = rounds + 1; bound = d .node .cost }
           → Ends (searched (R .weights) goal) o o′ r
       ends-full e eo er =
           rw (running-full (g .running) h then (rw e at (y .goes)))
-          (record { answer = rw (er, y .cost, add-one rounds); periods = eo })
+          (record { answer = rw (er, y .costs, add-one rounds); periods = eo })
 
       pub goes-on : {m : ℕ} → d .step ≡ Listed m → length w ≡ length work
           → Looping ts test R Carried goal budget room size (R .after s (least R ps)) w m (rounds + 1)

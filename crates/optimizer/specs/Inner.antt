@@ -6,7 +6,7 @@ use Prim.Native.Nat.{ℕ, zero, suc, _+_, _-_, _*_, _≤_, _<_}
 use lib.Dec.{eqb, ltb}
 use lib.ListN.{length, getD, take, drop}
 use Rattle.plan.specs.declared.record.Task.{Task}
-use Rattle.plan.specs.Tasks.{maxTasks, AllValid, periodMaxs, weights}
+use Rattle.plan.specs.Tasks.{maxTasks, maxWeight, AllValid, periodMaxs, weights}
 use Rattle.response.specs.Analysis.{schedulable}
 use Rattle.response.specs.Assignments.{cost, dominates, withinBounds}
 use Rattle.optimizer.specs.Nodes.{leastOf, without, dominatesSome, kept, SameNodes}
@@ -18,6 +18,8 @@ use Rattle.optimizer.specs.declared.children.Drops.{Drops}
 use Rattle.optimizer.specs.declared.children.Drops.the-variants.{All, One, Nothing}
 use Rattle.optimizer.specs.declared.children.Step.{Step}
 use Rattle.optimizer.specs.declared.children.Step.the-variants.{Answered, Listed, Full}
+use Rattle.optimizer.specs.declared.nodes.Least.{Least}
+use Rattle.optimizer.specs.declared.nodes.Node.{Node}
 use Rattle.optimizer.specs.declared.round.Round.{Round}
 
 -- "Each corner is written into its own stretch of the work space": node k of n periods, and the first count nodes
@@ -32,11 +34,11 @@ nodes (suc count) n work = take n work ∷ nodes count n (drop n work)
 abbrev pub put : List ℕ → ℕ → List ℕ → List ℕ
 put work at node = take at work ++ (node ++ drop (at + length node) work)
 
--- tasks and periods whose cost 64 bits hold
-pub record Priced (ts : List Task) (xs : List ℕ) : Type 0 where
-  pub valid : AllValid ts
+-- weights and periods whose cost 64 bits hold
+pub record Weighed (ws xs : List ℕ) : Type 0 where
   pub few : length xs ≤ maxTasks
-  pub sized : length xs ≡ length ts
+  pub sized : length xs ≡ length ws
+  pub light : (i : ℕ) → getD ws i 0 ≤ maxWeight
 
 -- node k among count nodes of n periods
 pub record Removable (work : List ℕ) (n count k : ℕ) : Type 0 where
@@ -51,14 +53,19 @@ pub record Holds (ts : List Task) (work : List ℕ) (count : ℕ) : Type 0 where
   pub some : 1 ≤ count
   pub fits : count * length ts ≤ length work
 
-pub record IsLeast (ts : List Task) (work : List ℕ) (count k : ℕ) : Type 0 where
-  pub open-node : k < count
-  pub least : nodeAt work (length ts) k ≡ leastOf (weights ts) (nodes count (length ts) work)
+-- the least of them
+abbrev pub leastIn : List Task → ℕ → List ℕ → List ℕ
+leastIn ts count work = leastOf (weights ts) (nodes count (length ts) work)
+
+pub record IsLeast (ts : List Task) (work : List ℕ) (count : ℕ) (r : Least) : Type 0 where
+  pub open-node : r .node < count
+  pub least : nodeAt work (length ts) (r .node) ≡ leastIn ts count work
+  pub costs : r .cost ≡ cost (weights ts) (leastIn ts count work)
 
 -- the least node taken off
-pub record Taken (ts : List Task) (count : ℕ) (work work′ node : List ℕ) : Type 0 where
-  pub sized : length (take (length ts) node) ≡ length ts
-  pub least : take (length ts) node ≡ leastOf (weights ts) (nodes count (length ts) work)
+pub record Taken (ts : List Task) (count : ℕ) (work work′ : List ℕ) (r : Node) : Type 0 where
+  pub least : take (length ts) (r .periods) ≡ leastIn ts count work
+  pub costs : r .cost ≡ cost (weights ts) (leastIn ts count work)
   pub rest : let ps = nodes count (length ts) work in
       SameNodes (nodes (count - 1) (length ts) work′) (without (leastOf (weights ts) ps) ps)
 
@@ -117,8 +124,8 @@ Goes R s room ps then Full = (R .answers s (least R ps) ≡ false) × (room < le
 
 -- a round by a rule, over count open nodes of n periods
 pub record Rounds (R : Rule) (s : R .State) (n count room : ℕ) (work work′ : List ℕ) (r : Round) : Type 0 where
-  pub node : take n (r .node) ≡ least R (nodes count n work)
-  pub cost : r .cost ≡ cost (R .weights) (least R (nodes count n work))
+  pub node : take n (r .node .periods) ≡ least R (nodes count n work)
+  pub costs : r .node .cost ≡ cost (R .weights) (least R (nodes count n work))
   pub goes : Goes R s room (nodes count n work) (λ m. nodes m n work′) (r .step)
 
 -- what a round asks: open nodes with room for more, and the least of them within its limits and bounds

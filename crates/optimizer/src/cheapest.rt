@@ -9,7 +9,6 @@ ghost use Rattle.plan.specs.Promises.{planTasks, Usable};
 ghost use Rattle.optimizer.specs.Inner.{Concludes};
 ghost use Rattle.optimizer.specs.Promises.{aloneFault, roomOf, concluded, Answers, Plans};
 use super::answer::Answer;
-use super::bounds::longest_periods;
 use super::nodes::clear;
 use super::search::search;
 use plan::Fault;
@@ -50,7 +49,7 @@ fn conclude(tasks: &[u32], budget: u64, periods: &mut [u32], work: &mut [u32]) -
         return Answer::refused(alone);
     }
     let n = periods.len();
-    let longest = longest_periods(tasks);
+    let longest = plan::column(tasks, Plan::PERIOD_MAX);
     let missed = first_unschedulable(tasks, &longest[..n]);
     if missed != 0 {
         return Answer::refused(Fault {

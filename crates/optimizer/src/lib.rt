@@ -1,6 +1,5 @@
 // CHEAPEST: the step rule over a lent work space.
 mod answer; // answer.rt: the operation's answer
-mod bounds; // bounds.rt: the least and the greatest periods
 mod order; // order.rt: cost and order of period assignments
 mod nodes; // nodes.rt: open nodes in the lent work space
 mod mua; // mua.rt: the maximal unschedulable assignment above a node

@@ -1,6 +1,6 @@
 ghost use mathlib.Core.Path.{_≡_};
-ghost use Prim.Native.Nat.{suc, _+_, _-_, _≤_, _<_, max};
-ghost use lib.ListN.{length, getD, take};
+ghost use Prim.Native.Nat.{suc, _+_, _≤_, _<_, max};
+ghost use lib.ListN.{length, take};
 ghost use Rattle.plan.specs.Tasks.{maxTicks, periodMaxs};
 ghost use Rattle.plan.specs.Table.{tasksIn};
 ghost use Rattle.response.specs.Analysis.{meets, schedulable};

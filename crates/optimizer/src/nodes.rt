@@ -76,37 +76,56 @@ pub fn clear(work: &mut [u32])
     }
 }
 
-// The least of the open nodes.
-pub fn least(work: &[u32], tasks: &[u32], count: usize) -> usize
+// The least of the open nodes, and its cost.
+pub struct Least {
+    pub node: usize,
+    pub cost: u64,
+}
+
+// The weights are copied out once: the loop reads them for every open node.
+pub fn find_least(work: &[u32], tasks: &[u32], count: usize) -> Least
     requires { ⌜ Holds (tasksIn (now tasks)) (now work) count ⌝ }
     ensures { λ r. ⌜ IsLeast (tasksIn (now (tasks .entry))) (now (work .entry)) count r ⌝ }
 {
     let n = plan::task_count(tasks);
+    let weights = plan::column(tasks, Plan::WEIGHT);
     let mut best = 0;
-    let mut best_cost = order::cost_of(tasks, node_at(work, n, 0));
+    let mut best_cost = order::cost_of(&weights[..n], node_at(work, n, 0));
     let mut k = 1;
     while k < count {
         let node = node_at(work, n, k);
-        let cost = order::cost_of(tasks, node);
+        let cost = order::cost_of(&weights[..n], node);
         if order::is_less(cost, best_cost, node, node_at(work, n, best)) {
             best = k;
             best_cost = cost;
         }
         k += 1;
     }
-    best
+    Least {
+        node: best,
+        cost: best_cost,
+    }
+}
+
+// A node taken off the open ones, with its cost.
+pub struct Node {
+    pub cost: u64,
+    pub periods: [u32; Plan::MAX_TASKS],
 }
 
 // Takes the least node off.
-pub fn take_least(work: &mut [u32], tasks: &[u32], count: usize) -> [u32; Plan::MAX_TASKS]
+pub fn take_least(work: &mut [u32], tasks: &[u32], count: usize) -> Node
     requires { ⌜ Holds (tasksIn (now tasks)) (now work) count ⌝ }
     ensures { λ r. ⌜ Taken (tasksIn (now (tasks .entry))) count (now (work .entry)) (now (work .exit)) r ⌝ }
 {
     let n = plan::task_count(tasks);
-    let k = least(work, tasks, count);
-    let node = read_node(node_at(work, n, k));
-    remove(work, n, count, k);
-    node
+    let least = find_least(work, tasks, count);
+    let periods = read_node(node_at(work, n, least.node));
+    remove(work, n, count, least.node);
+    Node {
+        cost: least.cost,
+        periods,
+    }
 }
 
 // The cost of the least open node.
@@ -115,7 +134,5 @@ pub fn bound_of(work: &[u32], tasks: &[u32], count: usize) -> u64
     ensures { λ r. ⌜ (let ts = tasksIn (now (tasks .entry)) in
         r ≡ cost (weights ts) (leastOf (weights ts) (nodes count (length ts) (now (work .entry))))) ⌝ }
 {
-    let n = plan::task_count(tasks);
-    let k = least(work, tasks, count);
-    order::cost_of(tasks, node_at(work, n, k))
+    find_least(work, tasks, count).cost
 }

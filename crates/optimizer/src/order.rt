@@ -1,20 +1,18 @@
 ghost use mathlib.Core.Path.{_≡_};
 ghost use lib.ListN.{length};
-ghost use Rattle.plan.specs.Tasks.{weights};
-ghost use Rattle.plan.specs.Table.{tasksIn};
 ghost use Rattle.response.specs.Assignments.{cost, before, byCost};
-ghost use Rattle.optimizer.specs.Inner.{Priced};
+ghost use Rattle.optimizer.specs.Inner.{Weighed};
 use plan::wide;
 
 // The cost, 64 bits wide: it passes 32.
-pub fn cost_of(tasks: &[u32], periods: &[u32]) -> u64
-    requires { ⌜ Priced (tasksIn (now tasks)) (now periods) ⌝ }
-    ensures { λ r. ⌜ r ≡ cost (weights (tasksIn (now (tasks .entry)))) (now (periods .entry)) ⌝ }
+pub fn cost_of(weights: &[u32], periods: &[u32]) -> u64
+    requires { ⌜ Weighed (now weights) (now periods) ⌝ }
+    ensures { λ r. ⌜ r ≡ cost (now (weights .entry)) (now (periods .entry)) ⌝ }
 {
     let mut sum: u64 = 0;
     let mut i = 0;
     while i < periods.len() {
-        sum += wide(plan::weight(tasks, i)) * wide(periods[i]);
+        sum += wide(weights[i]) * wide(periods[i]);
         i += 1;
     }
     sum

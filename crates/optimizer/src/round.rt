@@ -10,15 +10,13 @@ use super::children;
 use super::children::Step;
 use super::mua;
 use super::nodes;
-use super::order;
-use plan::Plan;
+use super::nodes::Node;
 use response::is_schedulable;
 
-// What a round comes to, and the node that it took off, with its cost.
+// What a round comes to, and the node that it took off.
 pub struct Round {
     pub step: Step,
-    pub cost: u64,
-    pub node: [u32; Plan::MAX_TASKS],
+    pub node: Node,
 }
 
 // Lists the children of an unschedulable node that was taken off.
@@ -42,14 +40,13 @@ pub fn run_round(tasks: &[u32], work: &mut [u32], count: usize, room: usize) -> 
 {
     let n = plan::task_count(tasks);
     let node = nodes::take_least(work, tasks, count);
-    let cost = order::cost_of(tasks, &node[..n]);
-    if is_schedulable(tasks, &node[..n]) {
+    let periods = node.periods;
+    if is_schedulable(tasks, &periods[..n]) {
         return Round {
             step: Step::Answered,
-            cost,
             node,
         };
     }
-    let step = branch(tasks, work, count - 1, room, &node[..n]);
-    Round { step, cost, node }
+    let step = branch(tasks, work, count - 1, room, &periods[..n]);
+    Round { step, node }
 }

@@ -6,10 +6,10 @@ ghost use Rattle.optimizer.specs.Search.{search};
 ghost use Rattle.optimizer.specs.Promises.{searched, roomOf};
 ghost use Rattle.optimizer.specs.Inner.{Searchable, Ends};
 use super::answer::Answer;
-use super::bounds::shortest_periods;
 use super::children::Step;
 use super::nodes;
 use super::round::run_round;
+use plan::Plan;
 
 // The rounds. The open nodes never run out: the longest periods are schedulable and dominate one of them.
 pub fn search(tasks: &[u32], budget: u64, periods: &mut [u32], work: &mut [u32]) -> Answer
@@ -20,7 +20,7 @@ pub fn search(tasks: &[u32], budget: u64, periods: &mut [u32], work: &mut [u32])
 {
     let n = periods.len();
     let room = work.len() / n;
-    let first = shortest_periods(tasks);
+    let first = plan::column(tasks, Plan::PERIOD_MIN);
     nodes::place(work, 0, &first[..n]);
     let mut count: usize = 1;
     let mut rounds: u64 = 0;
@@ -30,12 +30,12 @@ pub fn search(tasks: &[u32], budget: u64, periods: &mut [u32], work: &mut [u32])
         let step = done.step;
         match step {
             Step::Answered => {
-                let node = done.node;
-                nodes::write_node(periods, &node[..n]);
-                return Answer::answered(done.cost, rounds);
+                let found = done.node.periods;
+                nodes::write_node(periods, &found[..n]);
+                return Answer::answered(done.node.cost, rounds);
             }
             Step::Full => {
-                return Answer::stopped(34, rounds, done.cost);
+                return Answer::stopped(34, rounds, done.node.cost);
             }
             Step::Listed(listed) => {
                 count = listed;

@@ -1,6 +1,7 @@
 -- Laws of the plan file, by subject.
 pub mod Tests  -- tests as facts
 pub mod Lists  -- tabulated lists, and lists stored into others
+pub mod Fill  -- lists filled from the front
 pub mod Rules  -- the first broken rule
 pub mod Bytes  -- numbers as bytes
 pub mod Tables  -- rows and the tasks in them

@@ -1,14 +1,14 @@
 -- Tables of rows, and the tasks that they hold.
-use mathlib.Core.Path.{_≡_}
+use mathlib.Core.Path.{_≡_, sym, _∙_}
 use mathlib.Core.List.{List, [], _∷_, _++_}
 use Prim.Native.Nat.{ℕ, suc, _+_, _*_, _/_, _≤_, _<_}
 use native.Mathlib.Omega.{arith}
 use lib.ListN.{length, getD, length-append, List·getD-append}
 use lib.Seq.{getD-append-seam, getD-append-add}
 use Rattle.plan.specs.declared.record.Task.{Task}
-use Rattle.plan.specs.Tasks.{noTask, taskAt}
-use Rattle.plan.specs.Table.{rowFields, rowOf, taskIn, tasksIn}
-use Rattle.plan.proofs.Lists.{tabulate-length, tabulate-at, tabulate-more, tabulate-same}
+use Rattle.plan.specs.Tasks.{noTask, taskAt, periodMins, periodMaxs, weights}
+use Rattle.plan.specs.Table.{rowFields, rowOf, taskIn, columnIn, tasksIn}
+use Rattle.plan.proofs.Lists.{tabulate-length, tabulate-at, tabulate-more, tabulate-same, map-tabulate}
 
 module _ (table : List ℕ) where
   pub tasks-in-length : length (tasksIn table) ≡ length table / rowFields
@@ -24,6 +24,31 @@ module _ (table : List ℕ) where
     task-in =
         let e : 0 + i ≡ i = omega arith in
         rw e at (tabulate-at (taskIn table) (length table / rowFields) 0 i noTask (omega (arith, tasks-in-length)))
+
+-- one field of each task
+module _ (table : List ℕ) where
+  pub column-length : (field : ℕ) → length (columnIn table field) ≡ length (tasksIn table)
+  unfolding columnIn
+  column-length field = tabulate-length (λ i. getD table (rowFields * i + field) 0) (length table / rowFields) 0 ∙ sym (tasks-in-length table)
+
+  pub column-at : (field i : ℕ) → i < length (tasksIn table) → getD (columnIn table field) i 0 ≡ getD table (rowFields * i + field) 0
+  unfolding columnIn
+  column-at field i h =
+      let e : 0 + i ≡ i = omega arith in
+      let l : i < length table / rowFields = omega (arith, tasks-in-length table) in
+      rw e at (tabulate-at (λ k. getD table (rowFields * k + field) 0) (length table / rowFields) 0 i 0 l)
+
+  pub column-mins : columnIn table 1 ≡ periodMins (tasksIn table)
+  unfolding columnIn tasksIn
+  column-mins = sym (map-tabulate (λ t. t .«period_min») (taskIn table) (length table / rowFields) 0)
+
+  pub column-maxs : columnIn table 2 ≡ periodMaxs (tasksIn table)
+  unfolding columnIn tasksIn
+  column-maxs = sym (map-tabulate (λ t. t .«period_max») (taskIn table) (length table / rowFields) 0)
+
+  pub column-weights : columnIn table 4 ≡ weights (tasksIn table)
+  unfolding columnIn tasksIn
+  column-weights = sym (map-tabulate (λ t. t .weight) (taskIn table) (length table / rowFields) 0)
 
 -- a row behind k others
 module _ (xs : List ℕ) (t : Task) (k : ℕ) (long : length xs ≡ rowFields * k) where

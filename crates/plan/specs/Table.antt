@@ -20,6 +20,10 @@ taskIn table i = record {
   weight = getD table (rowFields * i + 4) 0;
 }
 
+-- one field of each task
+unfoldable pub columnIn : List ℕ → ℕ → List ℕ
+columnIn table field = tabulate (λ i. getD table (rowFields * i + field) 0) (length table / rowFields) 0
+
 -- the tasks that a table holds: as many as it has whole rows
 unfoldable pub tasksIn : List ℕ → List Task
 tasksIn table = tabulate (taskIn table) (length table / rowFields) 0

@@ -20,6 +20,7 @@ pub use reader::load_plan;
 pub use reader::name_at;
 pub use record::Plan;
 pub use record::Task;
+pub use table::column;
 pub use table::deadline_cap;
 pub use table::period_max;
 pub use table::period_min;

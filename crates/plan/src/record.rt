@@ -29,7 +29,17 @@ impl Plan {
 
     pub const MAX_FILE: usize = 2_048;
 
-    // The fields of a row, and the numbers of a table.
+    // The fields of a row, how many, and the numbers of a table.
+    pub const WCET: usize = 0;
+
+    pub const PERIOD_MIN: usize = 1;
+
+    pub const PERIOD_MAX: usize = 2;
+
+    pub const DEADLINE_CAP: usize = 3;
+
+    pub const WEIGHT: usize = 4;
+
     pub const ROW_FIELDS: usize = 5;
 
     pub const TABLE: usize = Plan::MAX_TASKS * Plan::ROW_FIELDS;

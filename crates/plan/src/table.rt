@@ -1,8 +1,8 @@
 ghost use mathlib.Core.Path.{_≡_};
-ghost use Prim.Native.Nat.{_<_};
-ghost use lib.ListN.{length};
-ghost use Rattle.plan.specs.Tasks.{taskAt};
-ghost use Rattle.plan.specs.Table.{rowFields, rowOf, tasksIn};
+ghost use Prim.Native.Nat.{_≤_, _<_};
+ghost use lib.ListN.{length, take};
+ghost use Rattle.plan.specs.Tasks.{maxTasks, taskAt};
+ghost use Rattle.plan.specs.Table.{rowFields, rowOf, columnIn, tasksIn};
 use super::record::Plan;
 use super::record::Task;
 
@@ -11,11 +11,11 @@ pub fn write_row(row: &mut [u32], t: Task)
     requires { ⌜ length (now row) ≡ rowFields ⌝ }
     ensures { λ _. ⌜ now (row .exit) ≡ rowOf t ⌝ }
 {
-    row[0] = t.wcet;
-    row[1] = t.period_min;
-    row[2] = t.period_max;
-    row[3] = t.deadline_cap;
-    row[4] = t.weight;
+    row[Plan::WCET] = t.wcet;
+    row[Plan::PERIOD_MIN] = t.period_min;
+    row[Plan::PERIOD_MAX] = t.period_max;
+    row[Plan::DEADLINE_CAP] = t.deadline_cap;
+    row[Plan::WEIGHT] = t.weight;
 }
 
 // How many tasks a table has.
@@ -37,26 +37,41 @@ pub fn period_min(tasks: &[u32], i: usize) -> u32
     requires { ⌜ i < length (tasksIn (now tasks)) ⌝ }
     ensures { λ r. ⌜ r ≡ taskAt (tasksIn (now (tasks .entry))) i .«period_min» ⌝ }
 {
-    tasks[Plan::ROW_FIELDS * i + 1]
+    tasks[Plan::ROW_FIELDS * i + Plan::PERIOD_MIN]
 }
 
 pub fn period_max(tasks: &[u32], i: usize) -> u32
     requires { ⌜ i < length (tasksIn (now tasks)) ⌝ }
     ensures { λ r. ⌜ r ≡ taskAt (tasksIn (now (tasks .entry))) i .«period_max» ⌝ }
 {
-    tasks[Plan::ROW_FIELDS * i + 2]
+    tasks[Plan::ROW_FIELDS * i + Plan::PERIOD_MAX]
 }
 
 pub fn deadline_cap(tasks: &[u32], i: usize) -> u32
     requires { ⌜ i < length (tasksIn (now tasks)) ⌝ }
     ensures { λ r. ⌜ r ≡ taskAt (tasksIn (now (tasks .entry))) i .«deadline_cap» ⌝ }
 {
-    tasks[Plan::ROW_FIELDS * i + 3]
+    tasks[Plan::ROW_FIELDS * i + Plan::DEADLINE_CAP]
 }
 
 pub fn weight(tasks: &[u32], i: usize) -> u32
     requires { ⌜ i < length (tasksIn (now tasks)) ⌝ }
     ensures { λ r. ⌜ r ≡ taskAt (tasksIn (now (tasks .entry))) i .weight ⌝ }
 {
-    tasks[Plan::ROW_FIELDS * i + 4]
+    tasks[Plan::ROW_FIELDS * i + Plan::WEIGHT]
+}
+
+// One field of each task, for loops that read it again and again.
+pub fn column(tasks: &[u32], field: usize) -> [u32; Plan::MAX_TASKS]
+    requires { ⌜ (length (tasksIn (now tasks)) ≤ maxTasks) × (field < rowFields) ⌝ }
+    ensures { λ r. ⌜ take (length (tasksIn (now (tasks .entry)))) r ≡ columnIn (now (tasks .entry)) field ⌝ }
+{
+    let n = task_count(tasks);
+    let mut r = [0u32; Plan::MAX_TASKS];
+    let mut i: usize = 0;
+    while i < n {
+        r[i] = tasks[Plan::ROW_FIELDS * i + field];
+        i += 1;
+    }
+    r
 }

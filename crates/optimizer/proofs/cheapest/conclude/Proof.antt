@@ -1,9 +1,10 @@
 use mathlib.Core.Path.{_≡_, sym, ap, _∙_}
 use borrow.Author.Needs.{needs}
 use native.Mathlib.Omega.{arith}
-use lib.ListN.{length, take, replicate, length-map}
+use lib.ListN.{length, take, replicate, length-take}
 use Rattle.plan.specs.Tasks.{periodMaxs}
 use Rattle.plan.specs.Table.{tasksIn}
+use Rattle.plan.proofs.Tables.{column-maxs}
 use Rattle.response.specs.Analysis.{responseTimes, firstMissed}
 use Rattle.response.proofs.Missed.{first-schedulable}
 use Rattle.optimizer.proofs.Settled.{alone}
@@ -15,21 +16,16 @@ use Rattle.optimizer.proofs.cheapest.conclude.Tie as tie
 abbrev start : tie.After-alone-fault → tie.Start
 start c = c .before .before .before .before
 
-abbrev tested : tie.After-longest-periods → tie.After-alone-fault
+abbrev tested : tie.After-column → tie.After-alone-fault
 tested c = c .before .before .before
 
-passes : (c : tie.After-longest-periods) → alone (tasksIn (start (tested c) .args .tasks .now)) .number ≡ 0
+passes : (c : tie.After-column) → alone (tasksIn (start (tested c) .args .tasks .now)) .number ≡ 0
 passes c = sym (ap (λ f. f .number) (tested c .alone-fault .ensures)) ∙ c .before .if1 .left
 
-longest-is : (c : tie.After-longest-periods) → let a = start (tested c) .args in
-    take (length (a .periods .now)) (c .longest-periods .result) ≡ periodMaxs (tasksIn (a .tasks .now))
-longest-is c = rw (start (tested c) .pre .sized) (c .longest-periods .ensures)
-
-longest-long : tie.Need-slice-aggregate-first-unschedulable
-longest-long c =
-    let l = c .before in
-    start (tested l) .pre .sized
-    ∙ sym (ap length (longest-is l) ∙ length-map (tasksIn (start (tested l) .args .tasks .now)) (λ t. t .«period_max»))
+longest-is : (c : tie.After-column) → let a = start (tested c) .args in
+    take (length (a .periods .now)) (c .column .result) ≡ periodMaxs (tasksIn (a .tasks .now))
+longest-is c =
+    let s = start (tested c) in rw (s .pre .sized) (c .column .ensures ∙ column-maxs (s .args .tasks .now))
 
 missed-is : (c : tie.After-first-unschedulable) → let ts = tasksIn (start (tested (c .before .before)) .args .tasks .now) in
     c .first-unschedulable .result ≡ firstMissed (responseTimes ts (periodMaxs ts))
@@ -66,6 +62,6 @@ pub conclude-spec : {M : Type 1} → statement M
 conclude-spec =
     tie.close
     (tie.spec (λ c κs. search needs) (λ c κs. search needs) returns (λ c κs. search needs) (λ c. search needs)
-    longest-long (λ c κs. let l = c .before in rw (longest-is l) (longest-limits (start (tested l) .pre)))
-    (λ c κs. search needs) returns-2 search-requires (λ c κs. search needs) (λ c. search needs) (λ c. search needs)
-    returns-3)
+    (λ c. simp length-take (search needs))
+    (λ c κs. let l = c .before in rw (longest-is l) (longest-limits (start (tested l) .pre))) (λ c κs. search needs)
+    returns-2 search-requires (λ c κs. search needs) (λ c. search needs) (λ c. search needs) returns-3)

@@ -2,7 +2,7 @@ use borrow.Author.Needs.{needs}
 use mathlib.Core.Path.{sym}
 use Prim.Native.Nat.{_-_}
 use lib.ListN.{length, replicate, length-replicate, getD-replicate}
-use Rattle.optimizer.proofs.Fill.{Filled, filled-none, filled-more, filled-whole}
+use Rattle.plan.proofs.Fill.{Filled, filled-none, filled-more, filled-whole}
 use Rattle.optimizer.proofs.nodes.clear.Statement.{statement}
 use Rattle.optimizer.proofs.nodes.clear.Tie as tie
 

@@ -2,7 +2,7 @@ use borrow.Author.Needs.{needs}
 use mathlib.Core.Path.{refl}
 use Prim.Native.Nat.{_-_}
 use lib.ListN.{length}
-use Rattle.optimizer.proofs.Fill.{Filled, filled-none, filled-more, filled-front}
+use Rattle.plan.proofs.Fill.{Filled, filled-none, filled-more, filled-front}
 use Rattle.optimizer.proofs.nodes.read_node.Statement.{statement}
 use Rattle.optimizer.proofs.nodes.read_node.Tie as tie
 

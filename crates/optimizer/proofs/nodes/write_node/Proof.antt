@@ -2,7 +2,7 @@ use borrow.Author.Needs.{needs}
 use mathlib.Core.Path.{refl}
 use Prim.Native.Nat.{_-_}
 use lib.ListN.{length}
-use Rattle.optimizer.proofs.Fill.{Filled, filled-none, filled-more, filled-whole}
+use Rattle.plan.proofs.Fill.{Filled, filled-none, filled-more, filled-whole}
 use Rattle.optimizer.proofs.nodes.write_node.Statement.{statement}
 use Rattle.optimizer.proofs.nodes.write_node.Tie as tie
 

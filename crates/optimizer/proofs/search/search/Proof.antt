@@ -2,9 +2,10 @@ use mathlib.Core.Path.{_≡_, refl, sym, ap, _∙_}
 use Prim.Native.Nat.{ℕ, _-_}
 use borrow.Author.Needs.{needs}
 use native.Mathlib.Omega.{arith}
-use lib.ListN.{length, take, length-take, length-map}
+use lib.ListN.{length, take, length-take}
 use Rattle.plan.specs.Tasks.{periodMins}
 use Rattle.plan.specs.Table.{tasksIn}
+use Rattle.plan.proofs.Tables.{column-mins}
 use Rattle.response.specs.Analysis.{schedulable}
 use Rattle.optimizer.specs.Rule.{End}
 use Rattle.optimizer.specs.Search.{rule}
@@ -42,7 +43,7 @@ head d = d .before .before .before
 abbrev wrote : tie.After-answered Inv-loop μ-loop → tie.After-write-node Inv-loop μ-loop
 wrote c = c .before .before .before
 
-abbrev told : tie.After-node2 Inv-loop μ-loop → tie.After-enum-told Inv-loop μ-loop
+abbrev told : tie.After-found2 Inv-loop μ-loop → tie.After-enum-told Inv-loop μ-loop
 told c = c .before .before .before
 
 abbrev done : tie.After-enum-told Inv-loop μ-loop → tie.After-run-round Inv-loop μ-loop
@@ -54,16 +55,10 @@ goal l room = specs.search (tasksIn (start l .args .tasks .now)) (start l .args 
 
 -- the first node is the shortest periods
 first-is : (f : tie.After-first Inv-loop μ-loop) → let a = begun f .args in
-    take (length (a .periods .now)) (f .before .before .shortest-periods .result) ≡ periodMins (tasksIn (a .tasks .now))
-first-is f = rw (begun f .pre .given .sized) (f .before .before .shortest-periods .ensures)
-
-first-long : tie.Need-slice-aggregate-place Inv-loop μ-loop
-first-long f =
-    begun f .pre .given .sized
-    ∙ sym (ap length (first-is f) ∙ length-map (tasksIn (begun f .args .tasks .now)) (λ t. t .«period_min»))
-
-place-requires : tie.Need-place-requires Inv-loop μ-loop
-place-requires f κs = omega (arith, first-long f, begun f .pre .given .room, begun f .pre .given .sized)
+    take (length (a .periods .now)) (f .before .before .column .result) ≡ periodMins (tasksIn (a .tasks .now))
+first-is f =
+    let s = begun f in
+    rw (s .pre .given .sized) (f .before .before .column .ensures ∙ column-mins (s .args .tasks .now))
 
 loop-holds : tie.Need-loop-holds Inv-loop μ-loop
 loop-holds c =
@@ -74,15 +69,15 @@ loop-holds c =
 
 -- the node of a round has as many periods as there are to write
 node-is : (d : tie.After-run-round Inv-loop μ-loop) → let n = length (start (head d) .args .periods .now) in
-    n ≡ length (take n (d .run-round .result .node))
+    n ≡ length (take n (d .run-round .result .node .periods))
 node-is d =
     let l = head d in
     round-node (l .loop .inv .1) (d .before .before .loop-test .taken) (d .run-round .ensures) (start l .pre .given .sized)
 
-node-fits : tie.Need-array-share-prefix-node Inv-loop μ-loop
+node-fits : tie.Need-array-share-prefix-found Inv-loop μ-loop
 node-fits c =
     let d = done (c .before .before) in
-    omega (arith, node-is d, length-take (length (start (head d) .args .periods .now)) (d .run-round .result .node))
+    omega (arith, node-is d, length-take (length (start (head d) .args .periods .now)) (d .run-round .result .node .periods))
 
 write-node-requires : tie.Need-write-node-requires Inv-loop μ-loop
 write-node-requires c κs = let d = done (told c) in sym (node-is d) ∙ sym (ap length (head d .loop .inv .0))
@@ -133,8 +128,9 @@ returns-3 c =
 pub search-spec : {M : Type 1} → statement M
 search-spec =
     tie.close
-    (tie.spec Inv-loop μ-loop (λ c. search needs) (λ c κs. search needs) (λ c. search needs) first-long place-requires
-    loop-holds (λ c κs. ready (c .before .before .loop .inv .1)) (λ c. search needs) (λ c. search needs) node-fits
+    (tie.spec Inv-loop μ-loop (λ c. search needs) (λ c κs. search needs) (λ c. search needs)
+    (λ c. simp length-take (search needs)) (λ c κs. simp length-take (search needs)) loop-holds
+    (λ c κs. ready (c .before .before .loop .inv .1)) (λ c. search needs) (λ c. search needs) node-fits
     (λ c. node-is (done (told c))) write-node-requires (λ c κs. search needs) written-length
     (λ c. round-length (done (told (wrote c .before)))) returns (λ c. search needs) (λ c κs. search needs)
     (λ c. ap length (head (c .before .before .before .before .before) .loop .inv .0))
