@@ -32,24 +32,24 @@ name-le {s = s} {task} n = rw (n .bytes) (elim (bool (isNamed s task)) [
 ])
 
 -- a loop over the tasks stands at i: the lines of as many are stored
-pub record Listed (s xs ts : List ℕ) (at : ℕ) (out₀ : List ℕ) (i end : ℕ) (out : List ℕ) : Type 0 where
+pub record Lined (s xs ts : List ℕ) (at : ℕ) (out₀ : List ℕ) (i end : ℕ) (out : List ℕ) : Type 0 where
   pub puts : Puts at out₀ (taskLines s xs ts i) (lineSize * i) end out
   pub sized : length out ≡ length out₀
   pub within : i ≤ length xs
 
-pub listed-none : (s xs ts : List ℕ) (at : ℕ) (out : List ℕ) → Listed s xs ts at out 0 at out
-listed-none s xs ts at out = record {
+pub lined-none : (s xs ts : List ℕ) (at : ℕ) (out : List ℕ) → Lined s xs ts at out 0 at out
+lined-none s xs ts at out = record {
   puts = record { stored = refl; end = omega arith; few = omega arith };
   sized = refl;
   within = omega arith;
 }
 
-module _ {s xs ts : List ℕ} {at : ℕ} {out₀ : List ℕ} {i end : ℕ} {out : List ℕ} (p : Listed s xs ts at out₀ i end out) where
-  pub listed-more : {q q′ : ℕ × ℕ} {r : ℕ} {name out′ : List ℕ} → i < length xs → Names q s (i + 1) q′ name
+module _ {s xs ts : List ℕ} {at : ℕ} {out₀ : List ℕ} {i end : ℕ} {out : List ℕ} (p : Lined s xs ts at out₀ i end out) where
+  pub lined-more : {q q′ : ℕ × ℕ} {r : ℕ} {name out′ : List ℕ} → i < length xs → Names q s (i + 1) q′ name
       → Puts end out (line (name ∷ decimal (getD xs i 0) ∷ decimal (getD ts i 0) ∷ [])) (length name + 43) r out′
       → length out′ ≡ length out
-      → Listed s xs ts at out₀ (i + 1) r out′
-  listed-more h n w l =
+      → Lined s xs ts at out₀ (i + 1) r out′
+  lined-more h n w l =
       let k = name-le n in
       let one = rw (n .bytes) at (puts-within lineSize (omega arith) w) in
       rw add-one (record {
@@ -58,5 +58,5 @@ module _ {s xs ts : List ℕ} {at : ℕ} {out₀ : List ℕ} {i end : ℕ} {out 
         within = omega arith;
       })
 
-  pub listed-all : length xs ≤ i → Puts at out₀ (taskLines s xs ts (length xs)) (lineSize * length xs) end out
-  listed-all h = let e : i ≡ length xs = omega arith in rw e at (p .puts)
+  pub lined-all : length xs ≤ i → Puts at out₀ (taskLines s xs ts (length xs)) (lineSize * length xs) end out
+  lined-all h = let e : i ≡ length xs = omega arith in rw e at (p .puts)

@@ -15,8 +15,8 @@ use Rattle.plan.specs.Inner.{nameLength}
 use Rattle.plan.proofs.Tests.{bool, eq-or-ne, and-left, and-right}
 
 -- what is left of a field of n bytes after k of them
-abbrev pub rest : List ℕ → ℕ → ℕ → ℕ → List ℕ
-rest s at n k = take (n - k) (drop (at + k) s)
+abbrev pub fieldFrom : List ℕ → ℕ → ℕ → ℕ → List ℕ
+fieldFrom s at n k = take (n - k) (drop (at + k) s)
 
 drop-take : (k n : ℕ) (l : List ℕ) → drop k (take n l) ≡ take (n - k) (drop k l)
 drop-take zero n l = let e : n - 0 ≡ n = omega arith in rw e
@@ -25,22 +25,22 @@ drop-take (suc k) (suc n) [] = let e : suc n - suc k ≡ n - k = omega arith in 
 drop-take (suc k) (suc n) (x ∷ l) = let e : suc n - suc k ≡ n - k = omega arith in rw e (drop-take k n l)
 
 module _ (s : List ℕ) (at n : ℕ) where
-  pub rest-all : take n (drop at s) ≡ rest s at n 0
-  rest-all = let e : n - 0 ≡ n = omega arith in let a : at + 0 ≡ at = omega arith in rw (e, a)
+  pub field-all : take n (drop at s) ≡ fieldFrom s at n 0
+  field-all = let e : n - 0 ≡ n = omega arith in let a : at + 0 ≡ at = omega arith in rw (e, a)
 
   module _ (k : ℕ) where
-    pub rest-next : k < n → at + n ≤ length s → rest s at n k ≡ getD s (at + k) 0 ∷ rest s at n (k + 1)
-    rest-next h l =
+    pub field-next : k < n → at + n ≤ length s → fieldFrom s at n k ≡ getD s (at + k) 0 ∷ fieldFrom s at n (k + 1)
+    field-next h l =
         let e : n - k ≡ suc (n - (k + 1)) = omega arith in
         let a : at + (k + 1) ≡ suc (at + k) = omega arith in
         let b : at + k < length s = omega arith in
         rw (e, a, drop-cons s (at + k) 0 b)
 
-    pub rest-end : n ≤ k → rest s at n k ≡ []
-    rest-end h = let e : n - k ≡ 0 = omega arith in rw e
+    pub field-end : n ≤ k → fieldFrom s at n k ≡ []
+    field-end h = let e : n - k ≡ 0 = omega arith in rw e
 
-    pub rest-drop : drop k (take n (drop at s)) ≡ rest s at n k
-    rest-drop = drop-take k n (drop at s) ∙ ap (take (n - k)) (drop-drop k at s)
+    pub field-drop : drop k (take n (drop at s)) ≡ fieldFrom s at n k
+    field-drop = drop-take k n (drop at s) ∙ ap (take (n - k)) (drop-drop k at s)
 
 -- a byte before others
 module _ (b : ℕ) (bs : List ℕ) where

@@ -32,13 +32,15 @@ pub struct Loaded {
     pub names: usize,
 }
 
-fn refused(fault: Fault) -> Loaded
-    ensures { λ r. ⌜ Refuses fault r ⌝ }
-{
-    Loaded {
-        fault,
-        plan: Plan::new(0, [0; Plan::TABLE]),
-        names: 0,
+impl Loaded {
+    fn refused(fault: Fault) -> Loaded
+        ensures { λ r. ⌜ Refuses fault r ⌝ }
+    {
+        Loaded {
+            fault,
+            plan: Plan::new(0, [0; Plan::TABLE]),
+            names: 0,
+        }
     }
 }
 
@@ -54,10 +56,10 @@ fn decode_tasks(file: &[u8], areas: Areas) -> Loaded
     while i < n {
         let row = row_at(file, areas.rows + areas.row_width * i, i);
         let Row::Decoded(task) = row else {
-            return refused(row_fault(row));
+            return Loaded::refused(row_fault(row));
         };
         if !name_ok(file, names + NAME_WIDTH * i) {
-            return refused(Fault {
+            return Loaded::refused(Fault {
                 number: 10,
                 place: (i + 1) as u32,
             });
@@ -81,11 +83,11 @@ pub fn load_plan(file: &[u8]) -> Loaded
 {
     let layout = layout_of(file);
     let Layout::Located(areas) = layout else {
-        return refused(layout_fault(layout));
+        return Loaded::refused(layout_fault(layout));
     };
     let stray = stray_byte(file, areas);
     if stray.number != 0 {
-        return refused(stray);
+        return Loaded::refused(stray);
     }
     let decoded = decode_tasks(file, areas);
     if decoded.fault.number != 0 {
@@ -93,7 +95,7 @@ pub fn load_plan(file: &[u8]) -> Loaded
     }
     let repeated = repeated_name(file, areas);
     if repeated.number != 0 {
-        return refused(repeated);
+        return Loaded::refused(repeated);
     }
     decoded
 }

@@ -16,7 +16,7 @@ use Rattle.plan.proofs.Tests.{le-or-lt, eq-or-ne, both, between-le}
 use Rattle.plan.proofs.Rules.{or-next, or-here, or-first, or-second, if-passed, run-passed, run-none}
 use Rattle.response.specs.declared.times.Times.{Times}
 use Rattle.response.specs.Analysis.{deadlineAt, responseTimes}
-use Rattle.response.specs.Promises.{lengthFault, spaceFault, boundFault, boundsFault, periodsFault, timesFault}
+use Rattle.response.specs.Promises.{periodCountFault, spaceFault, boundFault, boundsFault, periodsFault, timesFault}
 use Rattle.response.specs.Promises.{refusedTimes, answerTimes, Analyses}
 use Rattle.response.proofs.Bounds.{Within}
 use Rattle.response.proofs.Exactness.{own-some, response-exact}
@@ -67,8 +67,8 @@ pub record Passed (ts : List Task) (xs : List ℕ) (space : ℕ) : Type 0 where
 pub passed-periods : (ts : List Task) (xs : List ℕ) (space : ℕ) → periodsFault ts xs space .number ≡ 0 → Passed ts xs space
 unfolding periodsFault
 passed-periods ts xs space e =
-    let l = or-first (lengthFault ts xs) _ e in
-    let r = or-second (lengthFault ts xs) (firstFault (spaceFault ts space ∷ boundsFault ts xs ∷ [])) e in
+    let l = or-first (periodCountFault ts xs) _ e in
+    let r = or-second (periodCountFault ts xs) (firstFault (spaceFault ts space ∷ boundsFault ts xs ∷ [])) e in
     let s = or-first (spaceFault ts space) _ r in
     let b = or-first (boundsFault ts xs) (firstFault []) (or-second (spaceFault ts space) _ r) in
     let n = eqb-true _ _ (not-false (eqb (length xs) (length ts)) (if-passed (not (eqb (length xs) (length ts))) 20 0 l)) in

@@ -15,8 +15,8 @@ use Rattle.response.specs.Analysis.{responseTimes, missedCount, firstMis
 use Rattle.response.specs.Claims.{IsResponseTime}
 
 -- "21: point not n long (TIMES). Place 0."
-abbrev pub lengthFault : List Task → List ℕ → Fault
-lengthFault ts xs = faultIf (not (eqb (length xs) (length ts))) 21 0
+abbrev pub periodCountFault : List Task → List ℕ → Fault
+periodCountFault ts xs = faultIf (not (eqb (length xs) (length ts))) 21 0
 
 -- "22: space for times or point not n long. Place 0.", of a space of so many numbers
 abbrev pub spaceFault : List Task → ℕ → Fault
@@ -32,7 +32,7 @@ boundsFault ts xs = firstFrom (boundFault ts xs) (length ts) 0
 
 -- "Whoever calls, after the file's and in this order"
 unfoldable pub periodsFault : List Task → List ℕ → ℕ → Fault
-periodsFault ts xs space = firstFault (lengthFault ts xs ∷ spaceFault ts space ∷ boundsFault ts xs ∷ [])
+periodsFault ts xs space = firstFault (periodCountFault ts xs ∷ spaceFault ts space ∷ boundsFault ts xs ∷ [])
 
 -- of a file's fault and tasks
 abbrev pub timesFault : Fault → List Task → List ℕ → ℕ → Fault

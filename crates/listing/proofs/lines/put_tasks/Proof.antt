@@ -2,12 +2,12 @@ use borrow.Author.Needs.{needs}
 use native.Mathlib.Omega.{arith}
 use Prim.Native.Nat.{_-_}
 use lib.ListN.{length}
-use Rattle.listing.proofs.TaskLines.{Listed, listed-none, listed-more, listed-all, name-le}
+use Rattle.listing.proofs.TaskLines.{Lined, lined-none, lined-more, lined-all, name-le}
 use Rattle.listing.proofs.lines.put_tasks.Statement.{statement}
 use Rattle.listing.proofs.lines.put_tasks.Tie as tie
 
 abbrev Inv-loop : tie.InvT-loop
-Inv-loop out₀ at file names periods times end₀ i₀ out end i = Listed file periods times at out₀ i end out
+Inv-loop out₀ at file names periods times end₀ i₀ out end i = Lined file periods times at out₀ i end out
 
 abbrev μ-loop : tie.MeasureT-loop
 μ-loop out₀ at file names periods times end₀ i₀ out end i = length periods - i
@@ -20,7 +20,7 @@ abbrev named : tie.After-shared-slice-known5 Inv-loop μ-loop → tie.After-name
 named c = c .before .before .before
 
 loop-holds : tie.Need-loop-holds Inv-loop μ-loop
-loop-holds c = listed-none _ _ _ _ _
+loop-holds c = lined-none _ _ _ _ _
 
 name-at-requires : tie.Need-name-at-requires Inv-loop μ-loop
 name-at-requires c κs = start (c .before) .pre .named _ (c .loop-test .taken)
@@ -35,10 +35,10 @@ loop-again c =
     let put = c .before .before in
     let n = named (put .before) in
     let at-loop = n .before .before in
-    listed-more (at-loop .loop .inv) (n .before .loop-test .taken) (n .name-at .ensures) (put .put-task .ensures) (put .put-task .kept .0)
+    lined-more (at-loop .loop .inv) (n .before .loop-test .taken) (n .name-at .ensures) (put .put-task .ensures) (put .put-task .kept .0)
 
 returns : tie.Need-returns Inv-loop μ-loop
-returns c = listed-all (c .before .loop .inv) (c .loop-test .left)
+returns c = lined-all (c .before .loop .inv) (c .loop-test .left)
 
 pub put-tasks-spec : {M : Type 1} → statement M
 put-tasks-spec =

@@ -6,27 +6,27 @@ use native.Mathlib.Omega.{arith}
 use lib.ListN.{getD, take, drop}
 use borrow.Author.Tests.{eq-eqb, ne-eqb}
 use Rattle.plan.specs.Names.{allZero}
-use Rattle.plan.proofs.Fields.{rest, rest-all, rest-next, rest-end}
+use Rattle.plan.proofs.Fields.{fieldFrom, field-all, field-next, field-end}
 use Rattle.plan.proofs.names.all_zero.Statement.{statement}
 use Rattle.plan.proofs.names.all_zero.Tie as tie
 
 abbrev Inv-loop : tie.InvT-loop
-Inv-loop file at n k₀ k = (k ≤ n) × (allZero (take n (drop at file)) ≡ allZero (rest file at n k))
+Inv-loop file at n k₀ k = (k ≤ n) × (allZero (take n (drop at file)) ≡ allZero (fieldFrom file at n k))
 
 abbrev μ-loop : tie.MeasureT-loop
 μ-loop file at n k₀ k = n - k
 
 -- the loop's turn at a byte
 next : (c : tie.In-loop Inv-loop μ-loop)
-    → let l = c .before in let a = l .before .args in let left = rest (a .file .now) (a .at) (a .n) in
+    → let l = c .before in let a = l .before .args in let left = fieldFrom (a .file .now) (a .at) (a .n) in
     left (l .loop .k) ≡ getD (a .file .now) (a .at + l .loop .k) 0 ∷ left (l .loop .k + 1)
 next c =
     let l = c .before in
     let a = l .before .args in
-    rest-next (a .file .now) (a .at) (a .n) (l .loop .k) (omega arith) (omega arith)
+    field-next (a .file .now) (a .at) (a .n) (l .loop .k) (omega arith) (omega arith)
 
 loop-holds : tie.Need-loop-holds Inv-loop μ-loop
-loop-holds c = (omega arith, ap allZero (rest-all (c .args .file .now) (c .args .at) (c .args .n)))
+loop-holds c = (omega arith, ap allZero (field-all (c .args .file .now) (c .args .at) (c .args .n)))
 
 returns : tie.Need-returns Inv-loop μ-loop
 returns c =
@@ -42,7 +42,7 @@ returns-2 : tie.Need-returns-2 Inv-loop μ-loop
 returns-2 c =
     let l = c .before in
     let a = l .before .args in
-    sym (l .loop .inv .1 ∙ rw (rest-end (a .file .now) (a .at) (a .n) (l .loop .k) (omega arith)))
+    sym (l .loop .inv .1 ∙ rw (field-end (a .file .now) (a .at) (a .n) (l .loop .k) (omega arith)))
 
 pub all-zero-spec : {M : Type 1} → statement M
 all-zero-spec =

@@ -8,12 +8,12 @@ use borrow.Author.Tests.{not-true, not-false}
 use Rattle.plan.specs.Layout.{nameWidth}
 use Rattle.plan.specs.Names.{isNameByte}
 use Rattle.plan.specs.Inner.{nameLength}
-use Rattle.plan.proofs.Fields.{rest, rest-all, rest-next, rest-end, length-more, length-stop}
+use Rattle.plan.proofs.Fields.{fieldFrom, field-all, field-next, field-end, length-more, length-stop}
 use Rattle.plan.proofs.names.name_length.Statement.{statement}
 use Rattle.plan.proofs.names.name_length.Tie as tie
 
 abbrev Inv-loop : tie.InvT-loop
-Inv-loop file at k₀ k = (k ≤ nameWidth) × (nameLength (take nameWidth (drop at file)) ≡ k + nameLength (rest file at nameWidth k))
+Inv-loop file at k₀ k = (k ≤ nameWidth) × (nameLength (take nameWidth (drop at file)) ≡ k + nameLength (fieldFrom file at nameWidth k))
 
 abbrev μ-loop : tie.MeasureT-loop
 μ-loop file at k₀ k = nameWidth - k
@@ -26,7 +26,7 @@ abbrev byte : tie.At-loop Inv-loop μ-loop → ℕ
 byte l = let a = l .before .before .args in getD (a .file .now) (a .at + l .loop .k) 0
 
 abbrev left : tie.At-loop Inv-loop μ-loop → ℕ → List ℕ
-left l k = let a = l .before .before .args in rest (a .file .now) (a .at) nameWidth k
+left l k = let a = l .before .before .args in fieldFrom (a .file .now) (a .at) nameWidth k
 
 tested : (c : tie.After-is-name-byte Inv-loop μ-loop) → c .is-name-byte .result ≡ isNameByte (byte (turn c))
 tested c = c .is-name-byte .ensures ∙ ap isNameByte (c .before .byte .ensures .0)
@@ -35,11 +35,11 @@ next : (c : tie.After-is-name-byte Inv-loop μ-loop) → let l = turn c in left 
 next c =
     let l = turn c in
     let a = l .before .before .args in
-    rest-next (a .file .now) (a .at) nameWidth (l .loop .k) (omega arith) (omega arith)
+    field-next (a .file .now) (a .at) nameWidth (l .loop .k) (omega arith) (omega arith)
 
 loop-holds : tie.Need-loop-holds Inv-loop μ-loop
 loop-holds c =
-    let a = c .before .args in (omega arith, omega (arith, ap nameLength (rest-all (a .file .now) (a .at) nameWidth)))
+    let a = c .before .args in (omega arith, omega (arith, ap nameLength (field-all (a .file .now) (a .at) nameWidth)))
 
 returns : tie.Need-returns Inv-loop μ-loop
 returns c =
@@ -59,7 +59,7 @@ returns-2 : tie.Need-returns-2 Inv-loop μ-loop
 returns-2 c =
     let l = c .before in
     let a = l .before .before .args in
-    let e = rest-end (a .file .now) (a .at) nameWidth (l .loop .k) (omega arith) in
+    let e = field-end (a .file .now) (a .at) nameWidth (l .loop .k) (omega arith) in
     (omega (arith, l .loop .inv .1, ap nameLength e), omega arith)
 
 pub name-length-spec : {M : Type 1} → statement M

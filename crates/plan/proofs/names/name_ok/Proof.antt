@@ -7,7 +7,7 @@ use borrow.Author.Tests.{le-leb}
 use lib.ListN.{take, drop}
 use Rattle.plan.specs.Layout.{nameWidth}
 use Rattle.plan.specs.Inner.{nameLength}
-use Rattle.plan.proofs.Fields.{rest-drop, name-ok-is}
+use Rattle.plan.proofs.Fields.{field-drop, name-ok-is}
 use Rattle.plan.proofs.names.name_ok.Statement.{statement}
 use Rattle.plan.proofs.names.name_ok.Tie as tie
 
@@ -26,7 +26,7 @@ returns-2 c =
     let k = n .name-length .result in
     let e : nameLength (field n) ≡ k = sym (n .name-length .ensures .0) in
     let h : 1 ≤ k = omega (arith, c .before .if1 .left) in
-    c .all-zero .ensures ∙ sym (name-ok-is (field n) ∙ rw (e, le-leb 1 k h, rest-drop (a .file .now) (a .at) nameWidth k))
+    c .all-zero .ensures ∙ sym (name-ok-is (field n) ∙ rw (e, le-leb 1 k h, field-drop (a .file .now) (a .at) nameWidth k))
 
 pub name-ok-spec : {M : Type 1} → statement M
 name-ok-spec =

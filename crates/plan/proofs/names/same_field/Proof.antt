@@ -8,13 +8,13 @@ use borrow.Author.Tests.{eq-eqb, ne-eqb}
 use Rattle.plan.specs.Lists.{same}
 use Rattle.plan.specs.Layout.{nameWidth}
 use Rattle.plan.specs.Inner.{sameFields}
-use Rattle.plan.proofs.Fields.{rest, rest-all, rest-next, rest-end}
+use Rattle.plan.proofs.Fields.{fieldFrom, field-all, field-next, field-end}
 use Rattle.plan.proofs.names.same_field.Statement.{statement}
 use Rattle.plan.proofs.names.same_field.Tie as tie
 
 abbrev Inv-loop : tie.InvT-loop
 Inv-loop file a b k₀ k =
-    (k ≤ nameWidth) × (sameFields file a b ≡ same (rest file a nameWidth k) (rest file b nameWidth k))
+    (k ≤ nameWidth) × (sameFields file a b ≡ same (fieldFrom file a nameWidth k) (fieldFrom file b nameWidth k))
 
 abbrev μ-loop : tie.MeasureT-loop
 μ-loop file a b k₀ k = nameWidth - k
@@ -24,12 +24,12 @@ abbrev bytes : tie.At-loop Inv-loop μ-loop → List ℕ
 bytes l = l .before .args .file .now
 
 next : (c : tie.In-loop Inv-loop μ-loop) (at : ℕ) → let l = c .before in at + nameWidth ≤ length (bytes l)
-    → rest (bytes l) at nameWidth (l .loop .k) ≡ getD (bytes l) (at + l .loop .k) 0 ∷ rest (bytes l) at nameWidth (l .loop .k + 1)
-next c at h = rest-next (bytes (c .before)) at nameWidth (c .before .loop .k) (omega arith) h
+    → fieldFrom (bytes l) at nameWidth (l .loop .k) ≡ getD (bytes l) (at + l .loop .k) 0 ∷ fieldFrom (bytes l) at nameWidth (l .loop .k + 1)
+next c at h = field-next (bytes (c .before)) at nameWidth (c .before .loop .k) (omega arith) h
 
 loop-holds : tie.Need-loop-holds Inv-loop μ-loop
 loop-holds c =
-    let s = c .args .file .now in (omega arith, rw (rest-all s (c .args .a) nameWidth, rest-all s (c .args .b) nameWidth))
+    let s = c .args .file .now in (omega arith, rw (field-all s (c .args .a) nameWidth, field-all s (c .args .b) nameWidth))
 
 returns : tie.Need-returns Inv-loop μ-loop
 returns c =
@@ -50,7 +50,7 @@ returns-2 c =
     let l = c .before in
     let a = l .before .args in
     let k = l .loop .k in
-    sym (l .loop .inv .1 ∙ rw (rest-end (bytes l) (a .a) nameWidth k (omega arith), rest-end (bytes l) (a .b) nameWidth k (omega arith)))
+    sym (l .loop .inv .1 ∙ rw (field-end (bytes l) (a .a) nameWidth k (omega arith), field-end (bytes l) (a .b) nameWidth k (omega arith)))
 
 pub same-field-spec : {M : Type 1} → statement M
 same-field-spec =
