@@ -1,13 +1,13 @@
 -- Tables of rows, and the tasks that they hold.
 use mathlib.Core.Path.{_≡_, sym, _∙_}
 use mathlib.Core.List.{List, [], _∷_, _++_}
-use Prim.Native.Nat.{ℕ, suc, _+_, _*_, _/_, _≤_, _<_}
+use Prim.Native.Nat.{ℕ, zero, suc, _+_, _*_, _/_, _≤_, _<_}
 use native.Mathlib.Omega.{arith}
 use lib.ListN.{length, getD, length-append, List·getD-append}
 use lib.Seq.{getD-append-seam, getD-append-add}
 use Rattle.plan.specs.declared.record.Task.{Task}
 use Rattle.plan.specs.Tasks.{noTask, taskAt, periodMins, periodMaxs, weights}
-use Rattle.plan.specs.Table.{rowFields, rowOf, taskIn, columnIn, tasksIn}
+use Rattle.plan.specs.Table.{rowFields, rowOf, fieldOf, taskIn, columnIn, tasksIn}
 use Rattle.plan.proofs.Lists.{tabulate-length, tabulate-at, tabulate-more, tabulate-same, map-tabulate}
 
 module _ (table : List ℕ) where
@@ -24,6 +24,15 @@ module _ (table : List ℕ) where
     task-in =
         let e : 0 + i ≡ i = omega arith in
         rw e at (tabulate-at (taskIn table) (length table / rowFields) 0 i noTask (omega (arith, tasks-in-length)))
+
+    -- its fields, by their place in the row
+    pub field-in : (k : ℕ) → k < rowFields → fieldOf (taskAt (tasksIn table) i) k ≡ getD table (rowFields * i + k) 0
+    field-in zero l = let e : rowFields * i + 0 ≡ rowFields * i = omega arith in rw (task-in, e)
+    field-in (suc zero) l = rw task-in
+    field-in (suc (suc zero)) l = rw task-in
+    field-in (suc (suc (suc zero))) l = rw task-in
+    field-in (suc (suc (suc (suc zero)))) l = rw task-in
+    field-in (suc (suc (suc (suc (suc k))))) l = let z : ⊥ = omega arith in absurd z
 
 -- one field of each task
 module _ (table : List ℕ) where

@@ -11,6 +11,9 @@ rowFields = 5
 abbrev pub rowOf : Task → List ℕ
 rowOf t = t .wcet ∷ t .«period_min» ∷ t .«period_max» ∷ t .«deadline_cap» ∷ t .weight ∷ []
 
+abbrev pub fieldOf : Task → ℕ → ℕ
+fieldOf t k = getD (rowOf t) k 0
+
 abbrev pub taskIn : List ℕ → ℕ → Task
 taskIn table i = record {
   wcet = getD table (rowFields * i) 0;

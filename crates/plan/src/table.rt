@@ -2,7 +2,7 @@ ghost use mathlib.Core.Path.{_≡_};
 ghost use Prim.Native.Nat.{_≤_, _<_};
 ghost use lib.ListN.{length, take};
 ghost use Rattle.plan.specs.Tasks.{maxTasks, taskAt};
-ghost use Rattle.plan.specs.Table.{rowFields, rowOf, columnIn, tasksIn};
+ghost use Rattle.plan.specs.Table.{rowFields, rowOf, fieldOf, columnIn, tasksIn};
 use super::record::Plan;
 use super::record::Task;
 
@@ -25,40 +25,47 @@ pub fn task_count(tasks: &[u32]) -> usize
     tasks.len() / Plan::ROW_FIELDS
 }
 
-// A field of task i.
+// A field of task i, by its place in the row.
+fn field(tasks: &[u32], i: usize, k: usize) -> u32
+    requires { ⌜ (i < length (tasksIn (now tasks))) × (k < rowFields) ⌝ }
+    ensures { λ r. ⌜ r ≡ fieldOf (taskAt (tasksIn (now (tasks .entry))) i) k ⌝ }
+{
+    tasks[Plan::ROW_FIELDS * i + k]
+}
+
 pub fn wcet(tasks: &[u32], i: usize) -> u32
     requires { ⌜ i < length (tasksIn (now tasks)) ⌝ }
     ensures { λ r. ⌜ r ≡ taskAt (tasksIn (now (tasks .entry))) i .wcet ⌝ }
 {
-    tasks[Plan::ROW_FIELDS * i]
+    field(tasks, i, Plan::WCET)
 }
 
 pub fn period_min(tasks: &[u32], i: usize) -> u32
     requires { ⌜ i < length (tasksIn (now tasks)) ⌝ }
     ensures { λ r. ⌜ r ≡ taskAt (tasksIn (now (tasks .entry))) i .«period_min» ⌝ }
 {
-    tasks[Plan::ROW_FIELDS * i + Plan::PERIOD_MIN]
+    field(tasks, i, Plan::PERIOD_MIN)
 }
 
 pub fn period_max(tasks: &[u32], i: usize) -> u32
     requires { ⌜ i < length (tasksIn (now tasks)) ⌝ }
     ensures { λ r. ⌜ r ≡ taskAt (tasksIn (now (tasks .entry))) i .«period_max» ⌝ }
 {
-    tasks[Plan::ROW_FIELDS * i + Plan::PERIOD_MAX]
+    field(tasks, i, Plan::PERIOD_MAX)
 }
 
 pub fn deadline_cap(tasks: &[u32], i: usize) -> u32
     requires { ⌜ i < length (tasksIn (now tasks)) ⌝ }
     ensures { λ r. ⌜ r ≡ taskAt (tasksIn (now (tasks .entry))) i .«deadline_cap» ⌝ }
 {
-    tasks[Plan::ROW_FIELDS * i + Plan::DEADLINE_CAP]
+    field(tasks, i, Plan::DEADLINE_CAP)
 }
 
 pub fn weight(tasks: &[u32], i: usize) -> u32
     requires { ⌜ i < length (tasksIn (now tasks)) ⌝ }
     ensures { λ r. ⌜ r ≡ taskAt (tasksIn (now (tasks .entry))) i .weight ⌝ }
 {
-    tasks[Plan::ROW_FIELDS * i + Plan::WEIGHT]
+    field(tasks, i, Plan::WEIGHT)
 }
 
 // One field of each task, for loops that read it again and again.
