@@ -70,7 +70,8 @@ pub fn list_plan(file: &[u8], budget: u64, work: &mut [u32], out: &mut [u8; LIST
 // What program `timetable` writes of the first bytes of its input, so many.
 pub fn list_input(input: &[u8; INPUT_SIZE], size: usize, out: &mut [u8; LISTING_SIZE]) -> usize
     requires { ⌜ (length (now input) ≡ inputSize) × (size ≤ inputSize) ⌝ }
-    ensures { λ r. ⌜ Prints (timetableOf (take size (now (input .entry)))) (now (out .entry)) (now (out .exit)) r ⌝ }
+    ensures { λ r. ⌜ Prints (timetableOf (take size (now (input .entry))))
+        (now (out .entry)) (now (out .exit)) r ⌝ }
 {
     let bytes: &[u8] = input;
     let mut work = [0u32; WORK];

@@ -34,7 +34,8 @@ pub record Settles (ts : List Task) (budget room : ℕ) (a : Answer) (xs : List 
   -- "What CHEAPEST answers is an on-time timetable within the bounds and that timetable's cost"
   pub answered : a .fault .number ≡ 0 → Feasible ts xs × (a .cost ≡ cost (weights ts) xs)
   -- "every other on-time timetable within the bounds costs more, or costs the same and comes later"
-  pub cheapest : a .fault .number ≡ 0 → (ys : List ℕ) → Feasible ts ys → (ys ≡ xs → ⊥) → less (weights ts) xs ys ≡ true
+  pub cheapest : a .fault .number ≡ 0
+      → (ys : List ℕ) → Feasible ts ys → (ys ≡ xs → ⊥) → less (weights ts) xs ys ≡ true
   -- "'Lone' or 'none' comes exactly where no timetable within the bounds is on time."
   pub infeasible : IsNone a → Infeasible ts
   pub feasible : Infeasible ts → IsNone a

@@ -66,8 +66,8 @@ pub record IsLeast (ts : List Task) (work : List ℕ) (count : ℕ) (r : Least) 
 pub record Taken (ts : List Task) (count : ℕ) (work work′ : List ℕ) (r : Node) : Type 0 where
   pub least : take (length ts) (r .periods) ≡ leastIn ts count work
   pub costs : r .cost ≡ cost (weights ts) (leastIn ts count work)
-  pub rest : let ps = nodes count (length ts) work in
-      SameNodes (nodes (count - 1) (length ts) work′) (without (leastOf (weights ts) ps) ps)
+  pub rest : SameNodes (nodes (count - 1) (length ts) work′)
+      (without (leastIn ts count work) (nodes count (length ts) work))
 
 -- a node and an assignment that dominates it
 pub record Above (node u : List ℕ) : Type 0 where
@@ -133,7 +133,7 @@ pub record Ready (ts : List Task) (work : List ℕ) (count room : ℕ) : Type 0 
   pub holds : Holds ts work count
   pub within : count ≤ room
   pub fits : room * length ts ≤ length work
-  pub bounded : withinBounds ts (leastOf (weights ts) (nodes count (length ts) work)) ≡ true
+  pub bounded : withinBounds ts (leastIn ts count work) ≡ true
 
 -- tasks and the two spaces of a call that passed its own rules; with something feasible, too
 pub record Concludes (ts : List Task) (o w : List ℕ) : Type 0 where

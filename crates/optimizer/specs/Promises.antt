@@ -99,4 +99,5 @@ pub record Answers (x : Outcome) (o o′ w w′ : List ℕ) (r : Answer) : Type 
 pub record Plans (f : Fault) (ts : List Task) (budget : ℕ) (o o′ w w′ : List ℕ) (r : Answer) : Type 0 where
   pub answers : Answers (outcomeOf f ts budget (length o) (length w)) o o′ w w′ r
   -- demand 3
-  pub settles : passed (callFault f ts (length o) (length w)) ≡ true → Settles ts budget (roomOf ts (length w)) r o′
+  pub settles : passed (callFault f ts (length o) (length w)) ≡ true
+      → Settles ts budget (roomOf ts (length w)) r o′

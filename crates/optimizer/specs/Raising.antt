@@ -42,7 +42,8 @@ pub record LeastPeriod (ts : List Task) (u : List ℕ) (i low most p : ℕ) : Ty
   pub above : low ≤ p
   pub upto : p ≤ suc most
   pub misses : low < p → schedulable ts (set u i (p - 1)) ≡ false
-  pub meet : (j : ℕ) → i ≤ j → j < length u → (y : ℕ) → p ≤ y → y ≤ most → meets ts (set u i y) j ≡ true
+  pub meet : (j : ℕ) → i ≤ j → j < length u
+      → (y : ℕ) → p ≤ y → y ≤ most → meets ts (set u i y) j ≡ true
 
 -- an unschedulable assignment, to be raised in period i; the tasks above meet their deadlines
 pub record Raises (ts : List Task) (u : List ℕ) (i most : ℕ) : Type 0 where

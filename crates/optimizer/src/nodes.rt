@@ -6,8 +6,8 @@ ghost use lib.ListN.{length, take, replicate};
 ghost use Rattle.plan.specs.Tasks.{maxTasks, weights};
 ghost use Rattle.plan.specs.Table.{tasksIn};
 ghost use Rattle.response.specs.Assignments.{cost};
-ghost use Rattle.optimizer.specs.Nodes.{leastOf, without, SameNodes};
-ghost use Rattle.optimizer.specs.Inner.{nodeAt, nodes, put, Removable, Holds, IsLeast, Taken};
+ghost use Rattle.optimizer.specs.Nodes.{without, SameNodes};
+ghost use Rattle.optimizer.specs.Inner.{nodeAt, nodes, put, leastIn, Removable, Holds, IsLeast, Taken};
 
 // The periods of node k, in their stretch.
 pub fn node_at<'a>(work: &'a [u32], n: usize, k: usize) -> &'a [u32]
@@ -48,7 +48,8 @@ pub fn write_node(stretch: &mut [u32], node: &[u32])
 // A node becomes node k.
 pub fn place(work: &mut [u32], k: usize, node: &[u32])
     requires { ⌜ k * length (now node) + length (now node) ≤ length (now work) ⌝ }
-    ensures { λ _. ⌜ (let p = now (node .entry) in now (work .exit) ≡ put (now (work .entry)) (k * length p) p) ⌝ }
+    ensures { λ _. ⌜ (let p = now (node .entry) in
+        now (work .exit) ≡ put (now (work .entry)) (k * length p) p) ⌝ }
 {
     let at = k * node.len();
     let end = at + node.len();
@@ -132,7 +133,7 @@ pub fn take_least(work: &mut [u32], tasks: &[u32], count: usize) -> Node
 pub fn bound_of(work: &[u32], tasks: &[u32], count: usize) -> u64
     requires { ⌜ Holds (tasksIn (now tasks)) (now work) count ⌝ }
     ensures { λ r. ⌜ (let ts = tasksIn (now (tasks .entry)) in
-        r ≡ cost (weights ts) (leastOf (weights ts) (nodes count (length ts) (now (work .entry))))) ⌝ }
+        r ≡ cost (weights ts) (leastIn ts count (now (work .entry)))) ⌝ }
 {
     find_least(work, tasks, count).cost
 }

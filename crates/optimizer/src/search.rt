@@ -1,4 +1,3 @@
-ghost use Prim.Native.Nat.{_/_};
 ghost use lib.ListN.{length};
 ghost use Rattle.plan.specs.Tasks.{weights};
 ghost use Rattle.plan.specs.Table.{tasksIn};

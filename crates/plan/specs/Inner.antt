@@ -2,11 +2,10 @@
 use mathlib.Core.Path.{_≡_}
 use mathlib.Core.Bool.{Bool, true, false, cond}
 use mathlib.Core.List.{List, [], _∷_}
-use Prim.Native.Nat.{ℕ, suc, _+_, _≤_, _<_}
+use Prim.Native.Nat.{ℕ, suc, _≤_, _<_}
 use lib.ListN.{length, take, drop}
 use Rattle.plan.specs.declared.faults.Fault.{Fault}
 use Rattle.plan.specs.declared.record.Task.{Task}
-use Rattle.plan.specs.declared.record.Plan.{Plan}
 use Rattle.plan.specs.declared.reader.Loaded.{Loaded}
 use Rattle.plan.specs.declared.rows.Row.{Row}
 use Rattle.plan.specs.declared.rows.Row.the-variants.{Decoded, Refused}

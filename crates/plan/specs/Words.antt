@@ -1,5 +1,5 @@
 -- "Little-endian.": numbers as bytes, and bytes as numbers.
-use mathlib.Core.List.{List, [], _∷_, _++_}
+use mathlib.Core.List.{List, [], _∷_}
 use Prim.Native.Nat.{ℕ, zero, suc, _+_, _*_, _/_, _%_}
 use lib.ListN.{take, drop}
 
