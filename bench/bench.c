@@ -1,9 +1,10 @@
-/* Times desk_call against the reference planner in one run: the calls
- * interleaved, the best of several, processor time. First both must give the
- * same block. Random plans are those of source document 001, section 7.2:
- * work 1 to 100, weight 1 to 1,000, caps 1,000,000; "wide" bounds from the work
- * to 5 times the sum of all work, as there; "narrow" ones from 0.9 to 2 times
- * that sum. */
+/* Times desk_call against planner.c in one run: the calls interleaved, the best
+ * of several, processor time. First all must give the same block. planner.c
+ * comes in two ways to a maximal unschedulable assignment, "bisect" and "jumps"
+ * (the product's), each from gcc and, where it is installed, from clang.
+ * Random plans: work 1 to 100, weight 1 to 1,000, caps 1,000,000; "wide" bounds
+ * from the work to 5 times the sum of all work, as in the literature; "narrow"
+ * ones from 0.9 to 2 times that sum. */
 #define _POSIX_C_SOURCE 200809L
 
 #include "../desk/desk.h"
@@ -15,25 +16,28 @@
 #include <string.h>
 #include <time.h>
 
+typedef uint32_t planner(const uint8_t *file, size_t file_len, uint8_t *block, size_t block_len, uint64_t budget);
+
+/* planner.c compiled once more; reference_call is gcc's bisection. */
+planner gcc_jumps_call;
 #ifdef WITH_CLANG
-/* planner.c once more, compiled by clang. */
-uint32_t clang_call(const uint8_t *file, size_t file_len, uint8_t *block, size_t block_len, uint64_t budget);
+planner clang_bisect_call, clang_jumps_call;
 #endif
 
 enum { SAMPLES = 5, TIMED_BUDGET = 3000, SHARE_PLANS = 100, SHARE_BUDGET = 100000 };
 
 static const double SAMPLE_SECONDS = 0.02;
 
-typedef uint32_t planner(const uint8_t *, size_t, uint8_t *, size_t, uint64_t);
-
 static const struct {
-    const char *name;
+    const char *compiler, *way;
     planner *call;
 } PLANNERS[] = {
-    {"desk", desk_call},
-    {"gcc", reference_call},
+    {"desk", "", desk_call},
+    {"gcc", "bisect", reference_call},
+    {"gcc", "jumps", gcc_jumps_call},
 #ifdef WITH_CLANG
-    {"clang", clang_call},
+    {"clang", "bisect", clang_bisect_call},
+    {"clang", "jumps", clang_jumps_call},
 #endif
 };
 
@@ -164,19 +168,25 @@ static void same_block(const char *what, const struct file *file, uint64_t budge
     for (int p = 1; p < PLANNER_COUNT; p++) {
         PLANNERS[p].call(file->bytes, file->length, other, sizeof other, budget);
         if (memcmp(block, other, sizeof other) != 0) {
-            printf("%s: %s and %s give different blocks\n", what, PLANNERS[0].name, PLANNERS[p].name);
+            printf("%s: desk and %s, %s, give different blocks\n", what, PLANNERS[p].compiler, PLANNERS[p].way);
             exit(1);
         }
     }
 }
 
+/* A column for each planner, then one for each ratio of the product to C. */
 static void heading(void)
 {
-    printf("%-18s %3s %7s %7s %6s", "plan", "n", "number", "rounds", "open");
+    printf("%-16s %3s %6s %6s %5s", "plan", "n", "number", "rounds", "open");
     for (int p = 0; p < PLANNER_COUNT; p++)
-        printf(" %9s", PLANNERS[p].name);
+        printf(" %7s", PLANNERS[p].compiler);
     for (int p = 1; p < PLANNER_COUNT; p++)
-        printf("  desk/%-5s", PLANNERS[p].name);
+        printf(" /%6s", PLANNERS[p].compiler);
+    printf("\n%-16s %3s %6s %6s %5s", "", "", "", "", "");
+    for (int p = 0; p < PLANNER_COUNT; p++)
+        printf(" %7s", PLANNERS[p].way);
+    for (int p = 1; p < PLANNER_COUNT; p++)
+        printf(" %7s", PLANNERS[p].way);
     printf("\n");
 }
 
@@ -196,12 +206,12 @@ static void time_plan(const char *name, const struct file *file, uint64_t budget
                 best[p] = time;
         }
     double rounds = desk_rounds_of(block) > 0 ? (double)desk_rounds_of(block) : 1;
-    printf("%-18s %3" PRIu32 " %7" PRIu32 " %7" PRIu64 " %6" PRIu32, name, file->n, desk_number_of(block),
+    printf("%-16s %3" PRIu32 " %6" PRIu32 " %6" PRIu64 " %5" PRIu32, name, file->n, desk_number_of(block),
            desk_rounds_of(block), open);
     for (int p = 0; p < PLANNER_COUNT; p++)
-        printf(" %9.2f", 1e6 * best[p] / rounds);
+        printf(" %7.2f", 1e6 * best[p] / rounds);
     for (int p = 1; p < PLANNER_COUNT; p++)
-        printf("  %10.2f", best[0] / best[p]);
+        printf(" %7.2f", best[0] / best[p]);
     printf("\n");
     fflush(stdout);
 }
@@ -245,7 +255,7 @@ int main(int argc, char **argv)
 
     printf("Processor microseconds a round, best of %d; budget %d, for S and files %d.\n", SAMPLES, TIMED_BUDGET,
            SHARE_BUDGET);
-    printf("open: open nodes at the end.\n\n");
+    printf("open: open nodes at the end; desk: the product; /: its time over that of C.\n\n");
     heading();
     time_plan("S", &s, SHARE_BUDGET);
     for (int k = 1; k < argc; k++) {

@@ -1,5 +1,7 @@
-/* The step rule of document 01 in plain C, as a measure for the proved planner:
- * the same algorithm without proofs. */
+/* The planner in plain C, as a measure for the proved one: docs/FORMAT.md's rule,
+ * with the costs kept beside the nodes and no work space to clear. The way to a
+ * maximal unschedulable assignment is bisection or, with JUMPS defined, the
+ * product's. */
 #include "planner.h"
 
 #include <string.h>
@@ -108,22 +110,37 @@ static uint32_t read_plan(const uint8_t *file, size_t length, struct plan *plan,
 
 /* The time test */
 
-static int misses_deadline(const struct plan *plan, const uint32_t *periods, uint32_t k)
+static uint32_t deadline_at(const struct plan *plan, uint32_t k, uint32_t period)
 {
-    uint32_t deadline = periods[k] < plan->deadline_cap[k] ? periods[k] : plan->deadline_cap[k];
-    uint32_t t = plan->wcet[k];
+    return period < plan->deadline_cap[k] ? period : plan->deadline_cap[k];
+}
 
-    while (t <= deadline) {
+static uint32_t rounded_up(uint32_t a, uint32_t b) { return (a + b - 1) / b; }
+
+/* The least t up to `limit` that covers task k's demand by t, 0 where there is
+ * none. No such t may be below `start`. */
+static uint32_t response_from(const struct plan *plan, const uint32_t *periods, uint32_t k, uint32_t limit,
+                              uint32_t start)
+{
+    uint32_t t = start;
+
+    while (t <= limit) {
         uint64_t demand = plan->wcet[k];
         for (uint32_t j = 0; j < k; j++)
-            demand += (uint64_t)plan->wcet[j] * ((t + periods[j] - 1) / periods[j]);
+            demand += (uint64_t)plan->wcet[j] * rounded_up(t, periods[j]);
         if (demand <= t)
+            return t;
+        if (demand > limit)
             return 0;
-        if (demand > deadline)
-            return 1;
         t = (uint32_t)demand;
     }
-    return 1;
+    return 0;
+}
+
+/* The response time, 0 where the task misses its deadline. */
+static uint32_t response_time(const struct plan *plan, const uint32_t *periods, uint32_t k)
+{
+    return response_from(plan, periods, k, deadline_at(plan, k, periods[k]), plan->wcet[k]);
 }
 
 /* The first task that misses its deadline, or n. */
@@ -131,52 +148,27 @@ static uint32_t first_late(const struct plan *plan, const uint32_t *periods)
 {
     uint32_t k = 0;
 
-    while (k < plan->n && !misses_deadline(plan, periods, k))
+    while (k < plan->n && response_time(plan, periods, k) != 0)
         k++;
     return k;
 }
 
-/* The greatest period of task i that leaves task k late, if that is above
- * `late`; else `late`. Leaves periods[i] at some value. */
-static uint32_t greatest_late(const struct plan *plan, uint32_t *periods, uint32_t i, uint32_t k, uint32_t late)
+/* The lowest task first: it is mostly the one that misses. */
+static int is_schedulable(const struct plan *plan, const uint32_t *periods)
 {
-    uint32_t beyond = plan->period_max[i];
-
-    if (late == beyond)
-        return late;
-    periods[i] = late + 1;
-    if (!misses_deadline(plan, periods, k))
-        return late;
-    late++;
-    periods[i] = beyond;
-    if (misses_deadline(plan, periods, k))
-        return beyond;
-    while (beyond - late > 1) {
-        uint32_t middle = late + (beyond - late) / 2;
-        periods[i] = middle;
-        if (misses_deadline(plan, periods, k))
-            late = middle;
-        else
-            beyond = middle;
-    }
-    return late;
+    for (uint32_t k = plan->n; k-- > 0;)
+        if (response_time(plan, periods, k) == 0)
+            return 0;
+    return 1;
 }
 
-/* Raises an unschedulable assignment to its maximal unschedulable one. The
- * period of task i matters to task i and those below it only: with a late task
- * above, every value will do. */
-static void raise_to_mua(const struct plan *plan, uint32_t *periods)
-{
-    int late_above = 0;
-
-    for (uint32_t i = 0; i < plan->n; i++) {
-        uint32_t late = late_above ? plan->period_max[i] : periods[i];
-        for (uint32_t k = i; k < plan->n && late < plan->period_max[i]; k++)
-            late = greatest_late(plan, periods, i, k, late);
-        periods[i] = late;
-        late_above = late_above || misses_deadline(plan, periods, i);
-    }
-}
+/* raise_to_mua(plan, periods): an unschedulable assignment becomes its maximal
+ * unschedulable one. */
+#ifdef JUMPS
+#include "jumps.h"
+#else
+#include "bisection.h"
+#endif
 
 /* The open nodes */
 
@@ -296,7 +288,7 @@ static void cheapest(const struct plan *plan, uint64_t budget, struct outcome *o
         take(&open, least, n, node);
         outcome->rounds++;
         reference_open_nodes = open.count;
-        if (first_late(plan, node) == n) {
+        if (is_schedulable(plan, node)) {
             outcome->cost = cost;
             memcpy(outcome->periods, node, n * sizeof *node);
             return;

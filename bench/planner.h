@@ -1,4 +1,4 @@
-/* The reference planner: the interface of desk.h under another name. */
+/* The planner in plain C: the interface of desk.h under another name. */
 #ifndef PLANNER_H
 #define PLANNER_H
 
