@@ -1,6 +1,6 @@
-/* desk PLAN [BUDGET]: plans the tasks of a plan file and says the outcome in
- * words. Exit status: 0 an answer, 1 a stop, 2 a refusal, 3 wrong arguments or
- * a file that cannot be read. The printed words are document 01's. */
+/* desk PLAN [BUDGET]: plans the jobs of a plan file and says the outcome in
+ * words; USAGE below has the rest. The printed words are those of
+ * docs/FORMAT.md. */
 #include "desk.h"
 
 #include <errno.h>
@@ -13,6 +13,16 @@
 enum { ANSWER = 0, STOP = 1, REFUSAL = 2, TROUBLE = 3 };
 
 static const uint64_t DEFAULT_BUDGET = 100000;
+
+static const char USAGE[] =
+    "usage: desk PLAN [BUDGET]\n"
+    "       desk --help\n"
+    "Finds the cheapest periods at which every job of a plan file is on time.\n"
+    "PLAN is the file's path, or - for standard input.\n"
+    "BUDGET is the most rounds of the search, 0 to 18446744073709551615; 100000 if not given.\n"
+    "All times are ticks of 100 microseconds.\n"
+    "Exit status: 0 an answer; 1 a stop, where no timetable on time costs less than the bound;\n"
+    "2 a refusal; 3 wrong arguments, or something that cannot be read or written.\n";
 
 struct meaning {
     uint32_t number;
@@ -28,7 +38,7 @@ static const struct meaning MEANINGS[] = {
     {DESK_AREA, "an area starts before byte 16 or ends past the total", "area (1 rows, 2 names)"},
     {DESK_OVERLAP, "rows and names share a byte", NULL},
     {DESK_GAP, "a gap byte is not zero", "offset"},
-    {DESK_FIELD, "a field is outside its limits", "job"},
+    {DESK_FIELD, "a field is outside its limits (work, low, high and cap 1 to 1,000,000, weight 0 to 1,000)", "job"},
     {DESK_BOUNDS, "the low bound is above the high bound", "job"},
     {DESK_NAME, "a name is not 1 to 16 of A-Z, a-z, 0-9 and hyphen, then zeros", "job"},
     {DESK_SAME_NAME, "a name is equal to an earlier one", "job"},
@@ -72,7 +82,7 @@ static int parse_budget(const char *text, uint64_t *budget)
  * file still arrives too long and is refused by its length. */
 static int read_file(const char *path, uint8_t *bytes, size_t room, size_t *length)
 {
-    FILE *in = fopen(path, "rb");
+    FILE *in = strcmp(path, "-") == 0 ? stdin : fopen(path, "rb");
 
     if (in == NULL)
         return 0;
@@ -85,50 +95,84 @@ static int read_file(const char *path, uint8_t *bytes, size_t room, size_t *leng
     return !failed;
 }
 
-static int tell(const uint8_t *block)
+/* A job's name in a file that was accepted: its 16 bytes, zeros after the name. */
+static const char *name_of(const uint8_t *file, uint32_t job)
 {
-    uint32_t number = desk_number_of(block);
-    const struct meaning *meaning = meaning_of(number);
+    return (const char *)file + desk_u32(file + 8) + 16 * (job - 1);
+}
 
-    switch (number) {
+static int tell_answer(const uint8_t *file, const uint8_t *block)
+{
+    printf("answer: cost %" PRIu64 ", rounds %" PRIu64 "; periods in ticks of 100 microseconds\n",
+           desk_cost_of(block), desk_rounds_of(block));
+    for (uint32_t job = 1; job <= desk_n_of(block); job++)
+        printf("job %" PRIu32 ", %.16s: period %" PRIu32 "\n", job, name_of(file, job), desk_period_of(block, job));
+    return ANSWER;
+}
+
+static int tell_stop(const uint8_t *block, const char *text, const char *hint)
+{
+    printf("stop %" PRIu32 ": %s; bound %" PRIu64 ", rounds %" PRIu64 "\n", desk_number_of(block), text,
+           desk_bound_of(block), desk_rounds_of(block));
+    printf("hint: %s\n", hint);
+    return STOP;
+}
+
+static int tell_refusal(const uint8_t *block, const struct meaning *meaning)
+{
+    uint32_t place = desk_place_of(block);
+
+    printf("refused %" PRIu32 ", place %" PRIu32 ": %s", desk_number_of(block), place, meaning->text);
+    if (meaning->place != NULL)
+        printf("; %s %" PRIu32, meaning->place, place);
+    putchar('\n');
+    return REFUSAL;
+}
+
+static int tell(const uint8_t *file, const uint8_t *block)
+{
+    const struct meaning *meaning = meaning_of(desk_number_of(block));
+
+    switch (desk_number_of(block)) {
     case DESK_ANSWERED:
-        printf("answer: cost %" PRIu64 ", rounds %" PRIu64 "\n", desk_cost_of(block), desk_rounds_of(block));
-        for (uint32_t task = 1; task <= desk_n_of(block); task++)
-            printf("job %" PRIu32 ": period %" PRIu32 "\n", task, desk_period_of(block, task));
-        return ANSWER;
+        return tell_answer(file, block);
     case DESK_BUDGET:
+        return tell_stop(block, meaning->text, "give a larger budget, or narrow the bounds of some jobs");
     case DESK_SPACE:
-        printf("stop %" PRIu32 ": %s; bound %" PRIu64 ", rounds %" PRIu64 "\n", number, meaning->text,
-               desk_bound_of(block), desk_rounds_of(block));
-        return STOP;
+        return tell_stop(block, meaning->text, "narrow the bounds of some jobs; a larger budget stops here, too");
     default:
-        printf("refused %" PRIu32 ", place %" PRIu32 ": %s", number, desk_place_of(block), meaning->text);
-        if (meaning->place != NULL)
-            printf("; %s %" PRIu32, meaning->place, desk_place_of(block));
-        putchar('\n');
-        return REFUSAL;
+        return tell_refusal(block, meaning);
     }
 }
 
-int main(int argc, char **argv)
+static int plan(const char *path, uint64_t budget)
 {
     uint8_t file[DESK_FILE_MAX + 1];
     uint8_t block[DESK_BLOCK_LENGTH];
     size_t length;
-    uint64_t budget = DEFAULT_BUDGET;
 
-    if (argc < 2 || argc > 3 || (argc == 3 && !parse_budget(argv[2], &budget))) {
-        fputs("usage: desk PLAN [BUDGET]\n"
-              "BUDGET is a number of rounds, 0 to 18446744073709551615; 100000 if not given\n",
-              stderr);
-        return TROUBLE;
-    }
-    if (!read_file(argv[1], file, sizeof file, &length)) {
-        fprintf(stderr, "desk: %s: %s\n", argv[1], errno != 0 ? strerror(errno) : "cannot be read");
+    if (!read_file(path, file, sizeof file, &length)) {
+        fprintf(stderr, "desk: %s: %s\n", strcmp(path, "-") == 0 ? "standard input" : path,
+                errno != 0 ? strerror(errno) : "cannot be read");
         return TROUBLE;
     }
     desk_call(file, length, block, sizeof block, budget);
-    int status = tell(block);
+    return tell(file, block);
+}
+
+int main(int argc, char **argv)
+{
+    uint64_t budget = DEFAULT_BUDGET;
+    int status = ANSWER;
+
+    if (argc == 2 && strcmp(argv[1], "--help") == 0) {
+        fputs(USAGE, stdout);
+    } else if (argc < 2 || argc > 3 || (argc == 3 && !parse_budget(argv[2], &budget))) {
+        fputs(USAGE, stderr);
+        return TROUBLE;
+    } else {
+        status = plan(argv[1], budget);
+    }
     if (fflush(stdout) != 0 || ferror(stdout)) {
         fputs("desk: cannot write\n", stderr);
         return TROUBLE;

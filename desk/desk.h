@@ -1,8 +1,8 @@
 /* The planner of task periods, for programs in C and C++.
  *
- * Little-endian plan file in, little-endian block of 100 bytes out; document 01
- * has the formats. In its words a task is a job, an assignment of periods a
- * point, a schedulable one on time.
+ * Plan file in, block of 100 bytes out, both little-endian: docs/FORMAT.md has
+ * the bytes of both. All times are ticks of 100 microseconds. A task is what a
+ * plan file calls a job.
  */
 #ifndef DESK_H
 #define DESK_H
@@ -67,16 +67,22 @@ enum desk_offset {
     DESK_AT_PERIODS = 36    /* 16 of 4; unused ones 0, all 0 unless answered */
 };
 
-/* By bytes: right on any machine and at any alignment. */
+/* By bytes: right on any machine and at any alignment. No casts: C++ would warn of
+ * C's. */
 static inline uint32_t desk_u32(const uint8_t *bytes)
 {
-    return (uint32_t)bytes[0] | (uint32_t)bytes[1] << 8 |
-           (uint32_t)bytes[2] << 16 | (uint32_t)bytes[3] << 24;
+    uint32_t value = 0;
+
+    for (int k = 3; k >= 0; k--)
+        value = value << 8 | bytes[k];
+    return value;
 }
 
 static inline uint64_t desk_u64(const uint8_t *bytes)
 {
-    return (uint64_t)desk_u32(bytes) | (uint64_t)desk_u32(bytes + 4) << 32;
+    uint64_t high = desk_u32(bytes + 4);
+
+    return high << 32 | desk_u32(bytes);
 }
 
 static inline uint32_t desk_number_of(const uint8_t *block) { return desk_u32(block + DESK_AT_NUMBER); }
@@ -91,7 +97,7 @@ static inline uint32_t desk_period_of(const uint8_t *block, uint32_t task)
 {
     if (task < 1 || task > DESK_TASKS_MAX)
         return 0;
-    return desk_u32(block + DESK_AT_PERIODS + 4 * (size_t)(task - 1));
+    return desk_u32(block + DESK_AT_PERIODS + 4 * (task - 1));
 }
 
 #ifdef __cplusplus
