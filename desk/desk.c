@@ -35,7 +35,7 @@ static const struct meaning MEANINGS[] = {
     {DESK_VERSION, "the version is not 1", NULL},
     {DESK_TASK_COUNT, "the number of jobs is not 1 to 16", NULL},
     {DESK_TOTAL, "the total differs from the file's length", NULL},
-    {DESK_AREA, "an area starts before byte 16 or ends past the total", "area (1 rows, 2 names)"},
+    {DESK_AREA, "an area (1 rows, 2 names) starts before byte 16 or ends past the total", "area"},
     {DESK_OVERLAP, "rows and names share a byte", NULL},
     {DESK_GAP, "a gap byte is not zero", "offset"},
     {DESK_FIELD, "a field is outside its limits (work, low, high and cap 1 to 1,000,000, weight 0 to 1,000)", "job"},
@@ -137,9 +137,9 @@ static int tell(const uint8_t *file, const uint8_t *block)
     case DESK_ANSWERED:
         return tell_answer(file, block);
     case DESK_BUDGET:
-        return tell_stop(block, meaning->text, "give a larger budget, or narrow the bounds of some jobs");
+        return tell_stop(block, meaning->text, "try a larger budget, or narrower bounds of some jobs");
     case DESK_SPACE:
-        return tell_stop(block, meaning->text, "narrow the bounds of some jobs; a larger budget stops here, too");
+        return tell_stop(block, meaning->text, "try narrower bounds of some jobs; a larger budget stops here, too");
     default:
         return tell_refusal(block, meaning);
     }
@@ -167,8 +167,11 @@ int main(int argc, char **argv)
 
     if (argc == 2 && strcmp(argv[1], "--help") == 0) {
         fputs(USAGE, stdout);
-    } else if (argc < 2 || argc > 3 || (argc == 3 && !parse_budget(argv[2], &budget))) {
+    } else if (argc < 2 || argc > 3) {
         fputs(USAGE, stderr);
+        return TROUBLE;
+    } else if (argc == 3 && !parse_budget(argv[2], &budget)) {
+        fprintf(stderr, "desk: %s: not a number of rounds, 0 to 18446744073709551615 in digits\n", argv[2]);
         return TROUBLE;
     } else {
         status = plan(argv[1], budget);
