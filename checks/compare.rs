@@ -1,5 +1,5 @@
 //! compare [SEED]: calls desk_call on many plan files, sound and damaged, and
-//! holds each block byte for byte to the model of document 01 in model.rs.
+//! holds each block byte for byte to model.rs.
 //! Small plans are also solved by trying every assignment. One seed always
 //! gives the same files. Exit status 0 when all agree and every number came.
 
@@ -225,7 +225,7 @@ fn sound_plans(
     }
 }
 
-// Document 01's own numbers.
+// The published examples.
 
 fn plan_p() -> Vec<Task> {
     named(&[(1, 1, 6, 1_000, 1), (2, 1, 8, 1_000, 1)])

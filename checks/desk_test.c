@@ -1,4 +1,4 @@
-/* Calls desk_call as a C program would: plan P of document 01, its stops and
+/* Calls desk_call as a C program would: plan P of docs/FORMAT.md, its stops and
  * one file for each refusal. Every call is made twice: with guard bytes around
  * both lent buffers, and with buffers of exactly their size, for tools that
  * watch the heap. */

@@ -1,6 +1,6 @@
 //! listing PROGRAM [SEED]: runs the program `timetable` on many plan files, sound
-//! and damaged, and holds what it prints byte for byte to the listing of document
-//! 01 in model.rs. Run from the repository's root, where plans/ is. One seed
+//! and damaged, and holds what it prints byte for byte to the listing of
+//! model.rs. Run from the repository's root, where plans/ is. One seed
 //! always gives the same files. Exit status 0 when all agree and every number came.
 
 // The comparison of the archive uses the rest.
@@ -205,7 +205,7 @@ fn sample_files() -> Vec<Vec<u8>> {
     paths.iter().map(|path| std::fs::read(path).expect("a file of plans/")).collect()
 }
 
-/// The model against the one listing that document 01 gives whole.
+/// The model against the listing that docs/FORMAT.md gives whole.
 fn example() {
     let mut tasks = named(&[(1, 1, 6, 1_000, 1), (2, 1, 8, 1_000, 1)]);
     tasks[0].name[..5].copy_from_slice(b"gauge");

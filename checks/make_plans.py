@@ -1,6 +1,6 @@
 """Writes the sample plans: make_plans.py FOLDER.
 
-Format: document 01, "The plan file". A task here is
+Format: docs/FORMAT.md, "Plan file". A task here is
 (name, wcet, period_min, period_max, deadline_cap, weight), in ticks of 100
 microseconds, highest priority first.
 """
@@ -21,13 +21,13 @@ def plan_file(tasks):
     return struct.pack("<HHIII", 1, len(tasks), HEADER, at_names, total) + rows + names
 
 
-# Document 01's plan P: cost 6, rounds 4, periods 2 and 4.
+# Plan P of docs/FORMAT.md: cost 6, rounds 4, periods 2 and 4.
 P = [
     ("gauge", 1, 1, 6, 1000, 1),
     ("radio", 2, 1, 8, 1000, 1),
 ]
 
-# Document 01's plan S: stops with 34, bound 1448, rounds 13,870.
+# Plan S of docs/FORMAT.md: stops with 34, bound 1448, rounds 13,870.
 S = [(f"job-{k}", 10 * (k + 1), 1, 1000, 1000, 1) for k in range(1, 7)]
 
 # P with radio's low bound above its high bound: rule 9, place 2.

@@ -1,6 +1,6 @@
-//! Document 01 once more, in plain Rust: the file rules, the exact test of
-//! Lehoczky, Sha and Ding, the step rule, the desk's block and the listing. It
-//! follows the document sentence by sentence and is 64 bits wide throughout;
+//! docs/FORMAT.md in plain Rust: the file rules, the exact test of Lehoczky, Sha
+//! and Ding, the search round by round, the desk's block and the listing. It goes
+//! the plainest way everywhere and is 64 bits wide throughout;
 //! nothing here is shared with what it checks.
 
 pub const WORK_SPACE: u64 = 16_000;
@@ -163,7 +163,7 @@ pub fn schedulable(tasks: &[Task], periods: &[u64]) -> bool {
     first_late(tasks, periods).is_none()
 }
 
-/// A listed assignment. The derived order is the document's: cost, then the
+/// A listed assignment. The derived order is that of the search: cost, then the
 /// first period, then the second, and so on.
 #[derive(Clone, Debug, PartialEq, Eq, PartialOrd, Ord)]
 pub struct Node {

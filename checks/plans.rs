@@ -165,7 +165,8 @@ pub fn small_plan(random: &mut Random) -> Vec<Task> {
         .collect()
 }
 
-/// A plan after source document 001, section 7.2, with bounds of several widths.
+/// A plan after the random ones of Zhao, Zhou and Zeng (docs/BENCHMARKS.md), with
+/// bounds of several widths.
 pub fn random_plan(random: &mut Random, n: u64) -> Vec<Task> {
     let work = random.of(&[3, 20, 100]);
     let wcets: Vec<u64> = (0..n).map(|_| random.within(1, work)).collect();

@@ -135,7 +135,7 @@ fn write_from(words: &[u8], file: &mut [u8], end: usize) -> usize {
     p.end
 }
 
-// The file that words describe, over zeros: changes to plan P of document 01, or a plan of their own that a header
+// The file that words describe, over zeros: changes to plan P of docs/FORMAT.md, or a plan of their own that a header
 // begins; its length.
 pub(crate) fn write(words: &[u8], file: &mut [u8]) -> usize {
     if byte(words, 1) == b'%' {

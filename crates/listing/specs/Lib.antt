@@ -1,4 +1,4 @@
--- The listing of a plan, in the order of document 01.
+-- The listing of a plan.
 pub mod Text
 pub mod Inner
 pub mod Promises

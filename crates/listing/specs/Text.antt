@@ -1,4 +1,4 @@
--- Program `timetable`'s text, as bytes, in the order of document 01.
+-- Program `timetable`'s text, as bytes, in the order of docs/FORMAT.md, "Listing".
 use mathlib.Core.Bool.{cond}
 use mathlib.Core.List.{List, [], _∷_, _++_}
 use Prim.Native.Nat.{ℕ, zero, suc, _+_, _/_, _%_}

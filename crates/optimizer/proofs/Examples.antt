@@ -1,4 +1,4 @@
--- The starred examples of the search in document 01, computed from the bytes of their files.
+-- The published examples of the search, computed from the bytes of their files.
 use mathlib.Core.Path.{_≡_, refl}
 use mathlib.Core.Bool.{true, false}
 use mathlib.Core.List.{List, [], _∷_}
@@ -37,7 +37,7 @@ taken s = let ts = tasksOf s in takenFrom (rule ts (schedulable ts)) 100000 tt (
 abbrev ample : List ℕ → ℕ → Outcome
 ample s budget = outcome s budget 2 16000
 
-pub record Starred : Type 0 where
+pub record Published : Type 0 where
   -- "P: answer (2,4), cost 6, rounds 4; (3,3) costs 6 too and comes later. Corners taken: (1,1), (1,3), (1,4), (2,4)."
   pub answer : ample planP 100000 ≡ answered (2 ∷ 4 ∷ []) 6 4
   pub tie-met : schedulable (tasksOf planP) (3 ∷ 3 ∷ []) ≡ true
@@ -54,10 +54,10 @@ pub record Starred : Type 0 where
   -- "P with gauge's bounds 1 to 1: 32, place 2."
   pub gauge1 : ample (variantP 1 1000 1) 100000 ≡ refused (fault 32 2)
 
-pub starred : Starred
+pub published : Published
 unfolding valueOf bytesOf firstFrom fileFault tasksOf demand climbFrom responseUpTo responseTimes schedulable
     leastOf searchFrom mua children callFault infeasibleFault outcomeOf
-starred = record {
+published = record {
   answer = refl;
   tie-met = refl;
   tie-cost = refl;

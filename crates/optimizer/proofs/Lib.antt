@@ -19,4 +19,4 @@ mod Branch  -- children listed after the open nodes
 mod Taking  -- the least node taken off, and how its round goes
 mod Looping  -- the rounds over the work space
 mod Concluding  -- from the rules and the search to the outcome
-pub mod Examples  -- the starred examples
+pub mod Examples  -- the published examples

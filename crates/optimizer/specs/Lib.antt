@@ -1,4 +1,4 @@
--- The step rule of CHEAPEST, in the order of document 01.
+-- The step rule of CHEAPEST (docs/FORMAT.md, "What is looked for"), and what the call promises.
 pub mod Nodes
 pub mod Rule
 pub mod Mua

@@ -1,4 +1,4 @@
--- The maximal unschedulable assignment of a node (document 01: the wall), over a time test and the greatest periods.
+-- The maximal unschedulable assignment of a node (the requirement's wall), over a time test and the greatest periods.
 use mathlib.Core.Bool.{Bool, true, false}
 use mathlib.Core.List.{List}
 use Prim.Native.Nat.{ℕ, zero, suc, _-_}

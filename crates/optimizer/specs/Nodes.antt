@@ -1,4 +1,4 @@
--- Open nodes (document 01: the corners on the list): period assignments, of which the order of listing does not matter.
+-- Open nodes (the requirement's corners on the list): period assignments, whose order of listing does not matter.
 use mathlib.Core.Path.{_≡_}
 use mathlib.Core.Bool.{Bool, false, _||_, cond}
 use mathlib.Core.List.{List, [], _∷_}

@@ -1,4 +1,4 @@
--- The files of document 01's examples, byte by byte: rows at 16, names right after.
+-- The files of the examples P and S, byte by byte: rows at 16, names right after.
 use mathlib.Core.List.{List, [], _∷_, _++_, map}
 use Prim.Native.Nat.{ℕ, _+_, _-_, _*_}
 use lib.ListN.{length, replicate}

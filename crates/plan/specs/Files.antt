@@ -1,4 +1,5 @@
--- Refusals 1 to 11 in document 01's order, with their places; the tasks and names of an accepted file.
+-- Refusals 1 to 11 in their order, with their places (docs/FORMAT.md, "Numbers and places"); the tasks and names of an
+-- accepted file.
 use mathlib.Core.Bool.{Bool, _&&_, not, cond}
 use mathlib.Core.List.{List, [], _∷_}
 use Prim.Native.Nat.{ℕ, suc, _+_, _-_, _*_}

@@ -1,4 +1,4 @@
--- The plan file, in the order of document 01: limits and tasks, layout, names, refusals, and what the calls promise.
+-- The plan file (docs/FORMAT.md): limits and tasks, layout, names, refusals, and what the calls promise.
 pub mod Lists
 pub mod Faults
 pub mod Words

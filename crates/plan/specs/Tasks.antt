@@ -1,4 +1,4 @@
--- Tasks (document 01: jobs) and their limits. "The limits belong to the plan record itself": constants of `Plan`.
+-- Tasks (in plan files: jobs) and their limits. "The limits belong to the plan record itself": constants of `Plan`.
 use mathlib.Core.Bool.{Bool, _&&_}
 use mathlib.Core.List.{List, map}
 use Prim.Native.Nat.{ℕ, _+_, _≤_, _<_}

@@ -11,4 +11,4 @@ pub mod Order  -- assignments by cost
 pub mod Bounds  -- assignments within the tasks' bounds
 pub mod Ranges  -- valid tasks at periods within their bounds
 mod Refusals  -- TIMES, from its rules to its answer
-pub mod Examples  -- the starred examples
+pub mod Examples  -- the published examples

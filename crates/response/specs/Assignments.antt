@@ -1,4 +1,4 @@
--- Period assignments (document 01: points): cost, order, dominance, bounds.
+-- Period assignments (the requirement's points): cost, order, dominance, bounds.
 use mathlib.Core.Bool.{Bool, true, false, _&&_, _||_}
 use mathlib.Core.List.{List, [], _∷_}
 use Prim.Native.Nat.{ℕ, suc, _+_, _-_, _*_}

@@ -1,4 +1,4 @@
--- Response-time analysis at given periods, in the order of document 01.
+-- Response-time analysis at given periods (docs/FORMAT.md, "What is looked for"), and what the call promises.
 pub mod Analysis
 pub mod Assignments
 pub mod Claims
