@@ -3,8 +3,8 @@
  * comes in two ways to a maximal unschedulable assignment, "bisect" and "jumps"
  * (the product's), each from gcc and, where it is installed, from clang.
  * Random plans: work 1 to 100, weight 1 to 1,000, caps 1,000,000; "wide" bounds
- * from the work to 5 times the sum of all work, as in the literature; "narrow"
- * ones from 0.9 to 2 times that sum. */
+ * from the work to 5 times the sum of all work, "narrow" ones from 0.9 to 2
+ * times that sum; docs/BENCHMARKS.md has where they come from. */
 #define _POSIX_C_SOURCE 200809L
 
 #include "../desk/desk.h"
