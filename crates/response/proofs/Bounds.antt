@@ -9,7 +9,7 @@ use Rattle.plan.specs.declared.record.Task.{Task}
 use Rattle.plan.specs.Tasks.{between, periodMins, periodMaxs}
 use Rattle.plan.proofs.Tests.{and-left, and-right, and-both, between-le, le-between}
 use Rattle.response.specs.Assignments.{dominates, withinBounds}
-use Rattle.response.proofs.Dominance.{AtMost, dominates-at-most, at-most-cons, at-most-set, set-at-most}
+use Rattle.response.proofs.Dominance.{AtMost, dominates-at-most, at-most-cons, at-least-set, set-at-most}
 
 pub record Within (ts : List Task) (xs : List ℕ) : Type 0 where
   pub sized : length xs ≡ length ts
@@ -50,11 +50,11 @@ module _ (ts : List Task) (ranged : AtMost (periodMins ts) (periodMaxs ts)) wher
 pub dominates-within : {ts : List Task} {xs ys : List ℕ} → Within ts xs → Within ts ys → dominates ys xs ≡ true → AtMost xs ys
 dominates-within {ts} {xs} {ys} v w e = dominates-at-most xs ys (v .sized ∙ sym (w .sized)) e
 
--- one period raised, up to its maximum
+-- one period set
 pub within-set : {ts : List Task} {xs : List ℕ} → Within ts xs → (i v : ℕ)
-    → getD xs i 0 ≤ v → v ≤ getD (periodMaxs ts) i 0 → Within ts (set xs i v)
+    → getD (periodMins ts) i 0 ≤ v → v ≤ getD (periodMaxs ts) i 0 → Within ts (set xs i v)
 within-set {ts} {xs} w i v p q = record {
   sized = simp length-set (w .sized);
-  low = λ k. omega (arith, w .low k, at-most-set xs i p k);
+  low = at-least-set xs (periodMins ts) i (w .low) p;
   high = set-at-most xs (periodMaxs ts) i (w .high) q;
 }

@@ -1,14 +1,17 @@
--- The demand of task i by time t: it grows with t, falls as periods grow, is at least the task's own, and reads the periods above i only.
+-- The demand of task i by time t: it grows with t, falls as periods grow, is at least the task's own and that of any task
+-- above, and reads the periods above i only.
 use mathlib.Core.Path.{_≡_, refl}
+use mathlib.Core.Logic.{inl, inr}
 use mathlib.Core.List.{List}
-use Prim.Native.Nat.{ℕ, zero, suc, _≤_, _<_}
+use Prim.Native.Nat.{ℕ, zero, suc, _+_, _≤_, _<_}
 use native.Mathlib.Omega.{arith}
 use native.Mathlib.Nat.{mul-le-mul-left}
 use lib.ListN.{getD}
 use Rattle.plan.specs.declared.record.Task.{Task}
 use Rattle.plan.specs.Tasks.{taskAt}
+use Rattle.plan.proofs.Tests.{eq-or-ne}
 use Rattle.response.specs.Analysis.{releases, ownDemand, interferenceAbove, demand}
-use Rattle.response.proofs.Ceiling.{ceiling-monotone, ceiling-antitone}
+use Rattle.response.proofs.Ceiling.{ceiling-monotone, ceiling-antitone, ceiling-some}
 
 module _ (ts : List Task) where
   -- how often task k is released before t
@@ -55,3 +58,19 @@ module _ (ts : List Task) where
       → demand ts xs i t ≡ demand ts ys i t
   unfolding demand
   demand-same xs ys i t h = rw (above-same xs ys i t h)
+
+  -- a task's demand is that of any task above it, and its own
+  module _ (xs : List ℕ) (t : ℕ) (s : 1 ≤ t) where
+    above-demand : (j i : ℕ) → j < i → ((k : ℕ) → k < i → 1 ≤ getD xs k 0) → demand ts xs j t ≤ interferenceAbove ts xs i t
+    unfolding demand
+    above-demand j zero l p = let z : ⊥ = omega arith in absurd z
+    above-demand j (suc i) l p =
+        elim (eq-or-ne j i) [
+          | inl e ↦ rw e (omega (arith, mul-le-mul-left (taskAt ts i .wcet) (ceiling-some t (getD xs i 0) s (p i (omega arith)))))
+          | inr n ↦ omega (arith, above-demand j i (omega arith) (λ k h. p k (omega arith)))
+        ]
+
+    pub demand-above : (j i : ℕ) → j < i → ((k : ℕ) → k < i → 1 ≤ getD xs k 0)
+        → demand ts xs j t + ownDemand (taskAt ts i) ≤ demand ts xs i t
+    unfolding demand
+    demand-above j i l p = omega (arith, above-demand j i l p)

@@ -81,8 +81,11 @@ set-cases xs i v k = elim (eq-or-ne k i) [
   | inl e ↦ elim (le-or-lt (length xs) i) [ inl o ↦ inr (rw (set-out xs i v o)) | inr h ↦ inl (e, rw e (getD-set-same xs i v 0 h)) ]
 ]
 
+pub at-least-set : (xs ys : List ℕ) (i : ℕ) {v : ℕ} → AtMost ys xs → getD ys i 0 ≤ v → AtMost ys (set xs i v)
+at-least-set xs ys i {v} a h k = elim (set-cases xs i v k) [ inl s ↦ rw (s .1, s .0) h | inr s ↦ rw s (a k) ]
+
 pub at-most-set : (xs : List ℕ) (i : ℕ) {v : ℕ} → getD xs i 0 ≤ v → AtMost xs (set xs i v)
-at-most-set xs i {v} h k = elim (set-cases xs i v k) [ inl s ↦ rw (s .1, s .0) h | inr s ↦ omega arith ]
+at-most-set xs i h = at-least-set xs xs i (λ k. omega arith) h
 
 pub set-at-most : (xs ys : List ℕ) (i : ℕ) {v : ℕ} → AtMost xs ys → v ≤ getD ys i 0 → AtMost (set xs i v) ys
 set-at-most xs ys i {v} a h k = elim (set-cases xs i v k) [ inl s ↦ rw (s .1, s .0) h | inr s ↦ rw s (a k) ]

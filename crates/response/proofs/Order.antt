@@ -4,11 +4,11 @@ use mathlib.Core.Path.{_≡_, refl, sym, ap, ap₂, _∙_}
 use mathlib.Core.Bool.{Bool, true, false, _&&_, _||_, true≢false, false≢true}
 use mathlib.Core.Logic.{_⊎_, inl, inr}
 use mathlib.Core.List.{List, [], _∷_}
-use Prim.Native.Nat.{ℕ, suc, _≤_, _<_}
+use Prim.Native.Nat.{ℕ, zero, suc, _+_, _*_, _≤_, _<_}
 use native.Mathlib.Omega.{arith}
-use native.Mathlib.Nat.{mul-le-mul-left}
+use native.Mathlib.Nat.{mul-le-mul-left, mul-le-mul}
 use lib.Dec.{eqb, ltb}
-use lib.ListN.{length}
+use lib.ListN.{length, getD, set}
 use borrow.Author.Tests.{ltb-true, eqb-true, lt-ltb, le-ltb, eq-eqb, ne-eqb}
 use Rattle.plan.proofs.Tests.{bool, le-or-lt, eq-or-ne, both, not-false, and-left, and-right, or-cases}
 use Rattle.response.specs.Assignments.{cost, before, less}
@@ -79,6 +79,20 @@ cost-mono [] xs ys e a = omega arith
 cost-mono (w ∷ ws) [] ys e a = omega arith
 cost-mono (w ∷ ws) (x ∷ xs) [] e a = let z : ⊥ = omega arith in absurd z
 cost-mono (w ∷ ws) (x ∷ xs) (y ∷ ys) e a = omega (arith, mul-le-mul-left w (a 0), cost-mono ws xs ys (omega arith) (λ k. a (suc k)))
+
+-- one period longer by d
+pub cost-longer : (ws xs : List ℕ) (i d : ℕ) → i < length ws → i < length xs
+    → cost ws (set xs i (getD xs i 0 + d)) ≡ cost ws xs + getD ws i 0 * d
+cost-longer [] xs i d h l = let z : ⊥ = omega arith in absurd z
+cost-longer (w ∷ ws) [] i d h l = let z : ⊥ = omega arith in absurd z
+cost-longer (w ∷ ws) (x ∷ xs) zero d h l = omega arith
+cost-longer (w ∷ ws) (x ∷ xs) (suc i) d h l = omega (arith, cost-longer ws xs i d (omega arith) (omega arith))
+
+pub cost-most : (ws xs : List ℕ) (w x : ℕ) → ((k : ℕ) → getD ws k 0 ≤ w) → ((k : ℕ) → getD xs k 0 ≤ x) → cost ws xs ≤ length xs * (w * x)
+cost-most [] xs w x h l = omega arith
+cost-most (v ∷ ws) [] w x h l = omega arith
+cost-most (v ∷ ws) (y ∷ xs) w x h l =
+    omega (arith, mul-le-mul (h 0) (l 0), cost-most ws xs w x (λ k. h (suc k)) (λ k. l (suc k)))
 
 module _ (ws : List ℕ) where
   abbrev keyed : List ℕ → List ℕ

@@ -3,7 +3,7 @@ use mathlib.Core.Path.{_≡_, refl, ap, _∙_}
 use mathlib.Core.Bool.{true, false}
 use mathlib.Core.Logic.{inl, inr}
 use mathlib.Core.List.{List}
-use Prim.Native.Nat.{ℕ, zero, suc, _≤_, _<_}
+use Prim.Native.Nat.{ℕ, zero, suc, _+_, _-_, _≤_, _<_}
 use native.Mathlib.Omega.{arith}
 use lib.Dec.{ltb, leb}
 use lib.ListN.{length, getD, set}
@@ -11,11 +11,12 @@ use lib.Seq.{getD-set-other}
 use borrow.Author.Tests.{leb-true, le-leb}
 use Rattle.plan.specs.declared.record.Task.{Task}
 use Rattle.plan.specs.Tasks.{taskAt, AllValid}
-use Rattle.plan.proofs.Tests.{eq-or-ne, both, not-false, and-left, and-right, and-both}
+use Rattle.plan.proofs.Tests.{le-or-lt, eq-or-ne, both, not-false, and-left, and-right, and-both}
 use Rattle.response.specs.Analysis.{ownDemand, demand, deadline, deadlineAt, climbFrom, responseUpTo, responseTime}
 use Rattle.response.specs.Analysis.{meets, firstMeet, schedulable}
 use Rattle.response.specs.Claims.{Covers}
-use Rattle.response.proofs.Demand.{demand-antitone, demand-same}
+use Rattle.response.specs.Inner.{Begins}
+use Rattle.response.proofs.Demand.{demand-antitone, demand-same, demand-above, demand-own, demand-monotone}
 use Rattle.response.proofs.Exactness.{own-some, response-exact}
 
 -- a step of the climb, by what it reads: the limit, the demand, and what comes of climbing on
@@ -58,6 +59,31 @@ module _ (ts : List Task) where
 
   pub meets-set : (xs : List ℕ) (i j v : ℕ) → i < j → meets ts (set xs j v) i ≡ meets ts xs i
   meets-set xs i j v l = meets-same (set xs j v) xs i (λ k h. getD-set-other xs j k v 0 (λ e. let z : ⊥ = omega arith in z))
+
+  -- a time that covers a task's demand covers that of every task above
+  pub covers-above : (xs : List ℕ) (j i : ℕ) → j < i → ((k : ℕ) → k < i → 1 ≤ getD xs k 0) → {limit most t : ℕ} → t ≤ limit
+      → Covers most ts xs i t → Covers limit ts xs j t
+  covers-above xs j i l p {t = t} h c =
+      record { some = c .some; early = h; covers = omega (arith, c .covers, demand-above ts xs t (c .some) j i l p) }
+
+  -- so a task responds no earlier than one above it and its own demand later
+  pub begins-below : (xs : List ℕ) (j i : ℕ) → j < i → ((k : ℕ) → k < i → 1 ≤ getD xs k 0) → 1 ≤ ownDemand (taskAt ts j)
+      → {limit most r : ℕ} → r ≤ limit → Begins limit ts xs j r → Begins most ts xs i (r + ownDemand (taskAt ts i))
+  begins-below xs j i l p w {limit} {r = r} h b = record {
+    some = omega (arith, b .some);
+    below = λ t c.
+        let own = ownDemand (taskAt ts i) in
+        let d = demand-above ts xs t (c .some) j i l p in
+        let early : r ≤ t - own = elim (le-or-lt (t - own) limit) [
+          | inl e ↦ b .below (t - own) (record {
+            some = omega (arith, c .covers, demand-own ts xs j t);
+            early = e;
+            covers = omega (arith, c .covers, demand-monotone ts xs j (t - own) t (omega arith));
+          })
+          | inr e ↦ omega arith
+        ] in
+        omega (arith, c .covers, b .some);
+  }
 
   -- a task with work to do meets its deadline exactly where some t covers
   module _ (i : ℕ) (w : 1 ≤ ownDemand (taskAt ts i)) (xs : List ℕ) where
