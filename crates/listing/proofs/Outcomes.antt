@@ -21,7 +21,7 @@ use Rattle.response.specs.Promises.{spaceFault, boundFault, boundsFault, period
 use Rattle.response.proofs.Bounds.{Within, within-true}
 use Rattle.response.proofs.Ranges.{min-at, max-at}
 use Rattle.optimizer.specs.declared.answer.Answer.{Answer}
-use Rattle.optimizer.specs.Promises.{Outcome, workFault, callFault, outcomeOf, outcome, Answers, Plans}
+use Rattle.optimizer.specs.Promises.{Outcome, workFault, callFault, outcomeOf, outcome, written, Answers, Plans}
 use Rattle.listing.specs.Text.{line, fields, decimal, costWord, roundsWord, boundWord, refusalFields, taskLines}
 use Rattle.listing.specs.Text.{listingFor, listingOf}
 use Rattle.listing.specs.Inner.{Puts, lineSize, listingSize, HasLines, Listable}
@@ -53,7 +53,7 @@ module _ {s : List ℕ} {l : Loaded} {o rs out : List ℕ} (g : Listable s l o r
   abbrev x : Outcome
   x = outcome s budget (length (tasksOf s)) (length w)
 
-  answers : Answers x o o′ w w′ r
+  answers : Answers x (written x o) o′ w w′ r
   answers = rw (g .periods) at (plans .answers)
 
   lists : {most k : ℕ} {out′ text : List ℕ} → listingOf s budget (length w) ≡ text → Puts 0 out text most k out′

@@ -94,7 +94,7 @@ module _ {ts : List Task} {test : List ℕ → Bool} (𝓢 : Sound ts test) wher
       λ c h. child-of maxs node u n n 0 c (omega arith) h in
       record {
         within = λ c h. let q = raised c h in
-            rw (q .is) (within-set w (q .task) (suc (getD u (q .task) 0)) (omega (arith, f .above (q .task))) (q .raises));
+            rw (q .is) (within-set w (q .task) (suc (getD u (q .task) 0)) (omega (arith, f .above (q .task), w .low (q .task))) (q .raises));
         above = λ c h. let q = raised c h in rw (q .is) (at-most-set node (q .task) (omega (arith, f .above (q .task))));
         other = λ c h e. let q = raised c h in let i = q .task in
             omega (arith, ap (λ (x : List ℕ). getD x i 0) (e ∙ q .is), child-at maxs node u (f .above) i (q .inside), f .above i);

@@ -1,6 +1,6 @@
--- From the rules in their order and the search to CHEAPEST's outcome: 22 and 24 after the file's own, then 31, 32 and the search.
+-- From the rules in their order and the search to a call's outcome: 22 and 24 after the file's own, then 31, 32 and the search.
 use mathlib.Core.Path.{_≡_, ap, _∙_}
-use mathlib.Core.Bool.{true, false}
+use mathlib.Core.Bool.{Bool, true, false}
 use mathlib.Core.Logic.{inl, inr}
 use mathlib.Core.List.{List}
 use Prim.Native.Nat.{ℕ, _≤_, _<_}
@@ -11,7 +11,7 @@ use Rattle.plan.specs.declared.record.Task.{Task}
 use Rattle.plan.specs.declared.faults.Fault.{Fault}
 use Rattle.plan.specs.Faults.{fault, passed}
 use Rattle.plan.specs.Tasks.{AllValid, periodMaxs, weights}
-use Rattle.plan.proofs.Tests.{eq-or-ne, both, not-false}
+use Rattle.plan.proofs.Tests.{not-false}
 use Rattle.plan.proofs.Rules.{or-next, or-here}
 use Rattle.response.specs.Analysis.{schedulable, responseTimes, firstMissed}
 use Rattle.response.specs.Inner.{Limits}
@@ -19,35 +19,52 @@ use Rattle.response.proofs.Bounds.{maxs-within}
 use Rattle.response.proofs.Ranges.{ranged, limits-within}
 use Rattle.response.proofs.Missed.{schedulable-first}
 use Rattle.optimizer.specs.declared.answer.Answer.{Answer}
-use Rattle.optimizer.specs.Search.{search}
-use Rattle.optimizer.specs.Claims.{Settles}
-use Rattle.optimizer.specs.Inner.{Concludes, Ends}
-use Rattle.optimizer.specs.Promises.{callFault, infeasibleFault, roomOf, refused, searched, concluded, outcomeOf}
-use Rattle.optimizer.specs.Promises.{isSearched, Answers, Plans}
-use Rattle.optimizer.proofs.Branching.{lawful}
+use Rattle.optimizer.specs.Rule.{End}
+use Rattle.optimizer.specs.Search.{incumbentSearch}
+use Rattle.optimizer.specs.Inner.{Concludes, endedBy, Ends, Leaves}
+use Rattle.optimizer.specs.Promises.{callFault, infeasibleFault, Outcome, refused, concluded, called}
+use Rattle.optimizer.specs.Promises.{isSearched}
 use Rattle.optimizer.proofs.Guarantees.{search-optimal}
-use Rattle.optimizer.proofs.Settled.{of-two, sound, alone, tasks-pass, tasks-break, settles-refused, settles-searched}
+use Rattle.optimizer.proofs.Settled.{of-two, sound, alone, tasks-break}
+use Rattle.optimizer.proofs.Improving.{incumbent-first, lawful-incumbent}
 
 -- a refusal leaves both spaces as they were
 module _ {f : Fault} {o w : List ℕ} {r : Answer} (h : f .number ≡ 0 → ⊥) (e : r ≡ refused f .answer) where
-  answers-refused : f .number < 33 → Answers (refused f) o o w w r
-  answers-refused l = record { answer = e; periods = rw (ne-eqb _ 0 h); work = rw (ne-eqb _ 0 h, lt-leb 33 _ l) }
-
-  pub concluded-refused : (ts : List Task) (budget room : ℕ) → infeasibleFault ts ≡ f → Answers (concluded ts budget room) o o w w r
-  concluded-refused ts budget room q =
-      let b = of-two 31 (rw q at (tasks-break ts) h .0) in
-      rw (q, ne-eqb _ 0 h) (answers-refused (omega arith))
-
-  pub plans-refused : (g : Fault) (ts : List Task) (budget : ℕ) → callFault g ts (length o) (length w) ≡ f → f .number < 33
-      → Plans g ts budget o o w w r
-  unfolding outcomeOf
-  plans-refused g ts budget q l = record {
-    answers = rw (q, ne-eqb _ 0 h) (answers-refused l);
-    settles = λ t. absurd (both t (rw q (ne-eqb _ 0 h)));
+  leaves-refused : (keeps : Bool) → f .number < 33 → Leaves keeps (refused f) o o w w r
+  leaves-refused true l = record {
+    answer = e;
+    periods = rw (ne-eqb _ 0 h, lt-leb 33 _ l);
+    work = rw (ne-eqb _ 0 h, lt-leb 33 _ l);
   }
+  leaves-refused false l = record { answer = e; periods = rw (ne-eqb _ 0 h); work = rw (ne-eqb _ 0 h, lt-leb 33 _ l) }
+
+  pub concluded-refused : (keeps : Bool) (ts : List Task) (x : Outcome) → infeasibleFault ts ≡ f → Leaves keeps (concluded ts x) o o w w r
+  concluded-refused keeps ts x q =
+      let b = of-two 31 (rw q at (tasks-break ts) h .0) in
+      rw (q, ne-eqb _ 0 h) (leaves-refused keeps (omega arith))
+
+  pub called-refused : (keeps : Bool) (g : Fault) (ts : List Task) (x : Outcome) → callFault g ts (length o) (length w) ≡ f
+      → f .number < 33 → Leaves keeps (called g ts (length o) (length w) x) o o w w r
+  called-refused keeps g ts x q l = rw (q, ne-eqb _ 0 h) (leaves-refused keeps l)
 
 pub longest-limits : {ts : List Task} {o w : List ℕ} → Concludes ts o w → Limits ts (periodMaxs ts)
 longest-limits {ts} g = limits-within ts (g .valid) (maxs-within ts (ranged ts (g .valid))) (g .few)
+
+-- a search leaves the work space cleared
+module _ (e : End (List ℕ)) (k : isSearched (e .number) ≡ true) (ws o : List ℕ) {o′ w w′ : List ℕ} {r : Answer} where
+  leaves-searched : (keeps : Bool) → Ends keeps (endedBy keeps ws e) o o′ r → w′ ≡ replicate (length w) 0
+      → Leaves keeps (endedBy keeps ws e) o o′ w w′ r
+  leaves-searched true x c = record { answer = x .answer; periods = rw k (x .periods); work = rw k c }
+  leaves-searched false x c = record { answer = x .answer; periods = x .periods; work = rw k c }
+
+pub searched-number : (ts : List Task) → AllValid ts → schedulable ts (periodMaxs ts) ≡ true → (budget room : ℕ)
+    → isSearched (incumbentSearch ts budget room .number) ≡ true
+searched-number ts v t budget room =
+    let s = sound v in
+    elim (search-optimal (lawful-incumbent s t) (incumbent-first s t) budget room .number) [
+      | inl q ↦ rw q
+      | inr p ↦ elim p [ inl q ↦ rw q | inr q ↦ rw q ]
+    ]
 
 -- 31 and 32, in the words of the functions that look for them
 module _ (ts : List Task) where
@@ -67,16 +84,11 @@ module _ (ts : List Task) where
     is-feasible t = ap (λ k. k .number) (or-next (alone ts) _ e) ∙ rw t
 
     pub concluded-searched : AllValid ts → schedulable ts (periodMaxs ts) ≡ true
-        → (budget room : ℕ) {o o′ w w′ : List ℕ} {r : Answer}
-        → Ends (searched (weights ts) (search ts budget room)) o o′ r → w′ ≡ replicate (length w) 0
-        → Answers (concluded ts budget room) o o′ w w′ r
-    concluded-searched v t budget room x c =
-        let k : isSearched (search ts budget room .number) ≡ true =
-        elim (search-optimal (lawful (sound v) t) tt budget room .number) [
-          | inl q ↦ rw q
-          | inr p ↦ elim p [ inl q ↦ rw q | inr q ↦ rw q ]
-        ] in
-        rw (eq-eqb _ 0 (is-feasible t)) (record { answer = x .answer; periods = x .periods; work = rw k c })
+        → (keeps : Bool) (budget room : ℕ) {o o′ w w′ : List ℕ} {r : Answer}
+        → let x = endedBy keeps (weights ts) (incumbentSearch ts budget room) in
+        Ends keeps x o o′ r → w′ ≡ replicate (length w) 0 → Leaves keeps (concluded ts x) o o′ w w′ r
+    concluded-searched v t keeps budget room {o} x c =
+        rw (eq-eqb _ 0 (is-feasible t)) (leaves-searched (incumbentSearch ts budget room) (searched-number ts v t budget room) (weights ts) o keeps x c)
 
 -- the rules before the search's own
 module _ (f : Fault) (ts : List Task) (space work : ℕ) where
@@ -98,17 +110,8 @@ module _ (f : Fault) (ts : List Task) (space work : ℕ) where
       unfolding callFault
       call-passes l = rw (or-next f _ e, eq-eqb space (length ts) h, le-ltb work (length ts) l)
 
--- the outcome of tasks is that of the call, and settles demand 3
-module _ {ts : List Task} (v : AllValid ts) (budget : ℕ) {o o′ w w′ : List ℕ} {r : Answer}
-    (a : Answers (concluded ts budget (roomOf ts (length w))) o o′ w w′ r) where
-  settled : Settles ts budget (roomOf ts (length w)) r o′
-  settled = let room = roomOf ts (length w) in elim (eq-or-ne (infeasibleFault ts .number) 0) [
-    | inl z ↦ let b = rw (eq-eqb _ 0 z) at a in
-        rw (b .answer)
-        (settles-searched v budget room o′ (lawful (sound v) (tasks-pass ts z)) tt tt (λ n. b .periods ∙ rw (eq-eqb _ 0 n)))
-    | inr z ↦ let b = rw (ne-eqb _ 0 z) at a in rw (b .answer) (settles-refused v budget room o′ z)
-  ]
-
-  pub plans-concluded : (f : Fault) → passed (callFault f ts (length o) (length w)) ≡ true → Plans f ts budget o o′ w w′ r
-  unfolding outcomeOf
-  plans-concluded f t = record { answers = rw t a; settles = λ q. settled }
+-- they pass: the outcome of tasks is that of the call
+pub called-concluded : (keeps : Bool) (f : Fault) (ts : List Task) (x : Outcome) (o w : List ℕ) {o′ w′ : List ℕ} {r : Answer}
+    → passed (callFault f ts (length o) (length w)) ≡ true → Leaves keeps (concluded ts x) o o′ w w′ r
+    → Leaves keeps (called f ts (length o) (length w) x) o o′ w w′ r
+called-concluded keeps f ts x o w t a = rw t a

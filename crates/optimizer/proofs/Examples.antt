@@ -1,4 +1,4 @@
--- The published examples of the search, computed from the bytes of their files.
+-- The published examples of the search, and BEST's incumbents in one of them, computed from the bytes of their files.
 use mathlib.Core.Path.{_≡_, refl}
 use mathlib.Core.Bool.{true, false}
 use mathlib.Core.List.{List, [], _∷_}
@@ -13,8 +13,9 @@ use Rattle.response.specs.Assignments.{cost, less}
 use Rattle.optimizer.specs.Nodes.{leastOf}
 use Rattle.optimizer.specs.Rule.{Rule, least, next, searchFrom}
 use Rattle.optimizer.specs.Mua.{mua}
+use Rattle.optimizer.specs.Lowering.{lowering}
 use Rattle.optimizer.specs.Search.{children, rule, start}
-use Rattle.optimizer.specs.Promises.{callFault, infeasibleFault, Outcome, refused, outcomeOf, outcome}
+use Rattle.optimizer.specs.Promises.{callFault, infeasibleFault, Outcome, refused, outcomeOf, outcome, bestOutcomeOf}
 
 abbrev answered : List ℕ → ℕ → ℕ → Outcome
 answered xs total rounds = record { answer = record { fault = none; cost = total; rounds = rounds; bound = 0 }; periods = xs }
@@ -53,6 +54,27 @@ pub record Published : Type 0 where
   pub space2 : outcome planP 9 2 2 ≡ stopped 34 4 2
   -- "P with gauge's bounds 1 to 1: 32, place 2."
   pub gauge1 : ample (variantP 1 1000 1) 100000 ≡ refused (fault 32 2)
+
+-- BEST's stop with a work space of so many numbers
+abbrev kept : ℕ → ℕ → ℕ → ℕ → ℕ → List ℕ → Type 0
+kept budget work number bound rounds xs =
+    bestOutcomeOf (fileFault planP) (tasksOf planP) budget 2 work
+    ≡ record {
+      answer = record { fault = fault number 0; cost = cost (weights (tasksOf planP)) xs; rounds = rounds; bound = bound };
+      periods = xs;
+    }
+
+-- P's incumbent: the longest periods, then the lowering of (1,1), which none undercuts
+pub record Kept : Type 0 where
+  pub budget0 : kept 0 16000 33 2 0 (6 ∷ 8 ∷ [])
+  pub budget1 : kept 1 16000 33 4 1 (2 ∷ 4 ∷ [])
+  pub budget3 : kept 3 16000 33 6 3 (2 ∷ 4 ∷ [])
+  pub space2 : kept 9 2 34 4 2 (2 ∷ 4 ∷ [])
+
+pub incumbents : Kept
+unfolding valueOf bytesOf firstFrom fileFault tasksOf demand climbFrom responseUpTo responseTimes schedulable
+    leastOf searchFrom mua children lowering callFault infeasibleFault bestOutcomeOf
+incumbents = record { budget0 = refl; budget1 = refl; budget3 = refl; space2 = refl }
 
 pub published : Published
 unfolding valueOf bytesOf firstFrom fileFault tasksOf demand climbFrom responseUpTo responseTimes schedulable

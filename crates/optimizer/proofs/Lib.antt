@@ -7,8 +7,11 @@ pub mod Counting  -- the assignments within the bounds, counted
 pub mod Rounds  -- how many rounds there are
 pub mod Maximal  -- maximal unschedulable assignments
 pub mod OnePeriod  -- deadlines as one period changes
-pub mod Raising  -- the last period that misses, and the raising of a node
+pub mod Missing  -- the last period that misses
+pub mod Raising  -- the raising of a node
+pub mod Lowered  -- the lowering of a node
 pub mod Branching  -- the children of a node
+pub mod Improving  -- the incumbent
 pub mod Guarantees  -- what the search by a lawful rule comes to
 pub mod Running  -- the search while it runs
 pub mod Settled  -- demand 3
@@ -18,5 +21,7 @@ mod Drop  -- children that open nodes drop
 mod Branch  -- children listed after the open nodes
 mod Taking  -- the least node taken off, and how its round goes
 mod Looping  -- the rounds over the work space
+mod Searching  -- the rounds with an incumbent
 mod Concluding  -- from the rules and the search to the outcome
+mod Promised  -- from the outcome to what a call promises
 pub mod Examples  -- the published examples

@@ -1,4 +1,4 @@
--- The loop over the work space, by any lawful rule: what holds between rounds, what a round asks, and how each way out ends it.
+-- The loop over the work space, by any lawful rule: what holds between rounds, and what a round asks.
 use mathlib.Core.Path.{_≡_, refl, sym, ap, _∙_}
 use mathlib.Core.Bool.{Bool}
 use mathlib.Core.List.{List}
@@ -10,7 +10,7 @@ use lib.ListN.{length, take, length-map}
 use Rattle.plan.specs.declared.record.Task.{Task}
 use Rattle.plan.specs.Faults.{none, fault}
 use Rattle.plan.specs.Tasks.{maxTasks, AllValid, periodMins, weights}
-use Rattle.response.specs.Assignments.{cost}
+use Rattle.response.specs.Analysis.{schedulable}
 use Rattle.response.proofs.Bounds.{true-within}
 use Rattle.optimizer.specs.declared.answer.Answer.{Answer}
 use Rattle.optimizer.specs.declared.children.Step.the-variants.{Answered, Listed, Full}
@@ -18,15 +18,15 @@ use Rattle.optimizer.specs.declared.round.Round.{Round}
 use Rattle.optimizer.specs.Rule.{Rule, End, least, searchFrom}
 use Rattle.optimizer.specs.Search.{start}
 use Rattle.optimizer.specs.Promises.{roomOf, searched}
-use Rattle.optimizer.specs.Inner.{nodes, put, Ready, Rounds, Concludes, Ends}
+use Rattle.optimizer.specs.Inner.{nodes, put, LowersNode, Ready, Rounds, Concludes}
 use Rattle.optimizer.proofs.Space.{length-nodes, first-node}
 use Rattle.optimizer.proofs.Optimal.{Lawful}
-use Rattle.optimizer.proofs.Running.{Running, running-start, running-some, running-within, running-spent}
-use Rattle.optimizer.proofs.Running.{running-answered, running-full, running-listed}
+use Rattle.optimizer.proofs.Running.{Running, running-start, running-some, running-within, running-listed}
 
 -- a work space of so many numbers, with room for so many nodes of the tasks
 pub record Given (ts : List Task) (room size : ℕ) : Type 0 where
   pub valid : AllValid ts
+  pub some : 1 ≤ length ts
   pub few : length ts ≤ maxTasks
   pub fits : room * length ts ≤ size
 
@@ -47,7 +47,7 @@ module _ {ts : List Task} {test : List ℕ → Bool} {R : Rule} {Carried : R .St
   begins 𝓛 s c budget {o} {w} g l en ew =
       let front = first-node w (ap length en ∙ length-map ts (λ t. t .«period_min»)) ew ∙ en in
       record {
-        given = record { valid = g .valid; few = g .few; fits = rw (← g .sized) (omega (arith, div-mul-le-self (length w) (length o))) };
+        given = record { valid = g .valid; some = g .some; few = g .few; fits = rw (← g .sized) (omega (arith, div-mul-le-self (length w) (length o))) };
         within = le-div-iff-mul-le {k = length o} (omega (arith, g .sized, g .some)) .1 (omega (arith, g .sized, g .room));
         long = refl;
         running = rw front (running-start 𝓛 s c budget (length w / length o));
@@ -71,11 +71,6 @@ module _ {ts : List Task} {test : List ℕ → Bool} {R : Rule} {Carried : R .St
       bounded = rw (← g .running .lawful .weighs) (true-within ts (least R ps) (running-within (g .running)));
     }
 
-    pub ends-spent : budget ≤ rounds → {b : ℕ} → b ≡ cost (R .weights) (least R ps) → {o o′ : List ℕ} {r : Answer} → o′ ≡ o
-        → r ≡ record { fault = fault 33 0; cost = 0; rounds = rounds; bound = b }
-        → Ends (searched (R .weights) goal) o o′ r
-    ends-spent h eb eo er = rw (running-spent (g .running) h) (record { answer = rw (er, eb); periods = eo })
-
     -- a round by the rule
     module _ (h : rounds < budget) {w : List ℕ} {d : Round} (y : Rounds R s (length ts) count room work w d) where
       abbrev then : ℕ → List (List ℕ)
@@ -84,19 +79,15 @@ module _ {ts : List Task} {test : List ℕ → Bool} {R : Rule} {Carried : R .St
       pub round-node : {n : ℕ} → n ≡ length ts → n ≡ length (take n (d .node .periods))
       round-node e = rw e (sym (ap length (y .node) ∙ running-within (g .running) .sized))
 
-      pub ends-answered : d .step ≡ Answered → {n : ℕ} → n ≡ length ts → {o o′ : List ℕ} {r : Answer} → o′ ≡ take n (d .node .periods)
-          → r ≡ record { fault = none; cost = d .node .cost; rounds = rounds + 1; bound = 0 }
-          → Ends (searched (R .weights) goal) o o′ r
-      ends-answered e en eo er =
-          rw (running-answered (g .running) h then (rw e at (y .goes)))
-          (record { answer = rw (er, y .costs, add-one rounds); periods = rw en at eo ∙ y .node })
-
-      pub ends-full : d .step ≡ Full → {o o′ : List ℕ} {r : Answer} → o′ ≡ o
-          → r ≡ record { fault = fault 34 0; cost = 0; rounds = rounds + 1; bound = d .node .cost }
-          → Ends (searched (R .weights) goal) o o′ r
-      ends-full e eo er =
-          rw (running-full (g .running) h then (rw e at (y .goes)))
-          (record { answer = rw (er, y .costs, add-one rounds); periods = eo })
+      -- the schedulability of the longest periods comes from the rule
+      pub round-lowers : test ≡ schedulable ts → {n : ℕ} → n ≡ length ts → LowersNode ts (take n (d .node .periods))
+      round-lowers et en = rw (en, y .node) (record {
+        valid = g .given .valid;
+        some = g .given .some;
+        few = g .given .few;
+        bounded = true-within ts (least R ps) (running-within (g .running));
+        top = rw et at (g .running .lawful .top);
+      })
 
       pub goes-on : {m : ℕ} → d .step ≡ Listed m → length w ≡ length work
           → Looping ts test R Carried goal budget room size (R .after s (least R ps)) w m (rounds + 1)
@@ -108,9 +99,3 @@ module _ {ts : List Task} {test : List ℕ → Bool} {R : Rule} {Carried : R .St
             long = l ∙ g .long;
             running = rw (add-one rounds) (running-listed (g .running) h then m (length-nodes m (length ts) w) goes);
           }
-
--- the room of the code is that of the promise
-pub of-room : {ts : List Task} {o w : List ℕ} → Concludes ts o w → {S : Type 0} (goal : ℕ → End S) {p p′ : List ℕ} {r : Answer}
-    → Ends (searched (weights ts) (goal (length w / length o))) p p′ r
-    → Ends (searched (weights ts) (goal (roomOf ts (length w)))) p p′ r
-of-room g goal e = rw (g .sized) at e

@@ -33,7 +33,7 @@ module _ {ts : List Task} (test : List ℕ → Bool) where
     raised-from i (suc left) v p q = elim (bool (test (set u i v))) [
       | inl t ↦ rw (t, raisedFrom) (raised-from i left (v - 1) (omega arith) (omega arith))
       | inr t ↦ rw (t, raisedFrom)
-          (record { within = within-set w i v (omega arith) q; above = at-most-set u i (omega arith); fails = t })
+          (record { within = within-set w i v (omega (arith, w .low i)) q; above = at-most-set u i (omega arith); fails = t })
     ]
 
     raised-fails : (i : ℕ) → FailsAbove ts test u (raised test (periodMaxs ts) u i)

@@ -16,6 +16,7 @@ use Rattle.plan.proofs.Tests.{le-or-lt, eq-or-ne, not-false}
 use Rattle.response.specs.Analysis.{ceiling, ownDemand, deadline, deadlineAt, responseUpTo, responseTime, meets}
 use Rattle.response.specs.Claims.{Covers}
 use Rattle.response.specs.Inner.{Begins}
+use Rattle.optimizer.specs.Misses.{BeginsAt}
 use Rattle.response.proofs.Ceiling.{ceiling-le, le-ceiling, ceiling-some}
 use Rattle.response.proofs.Demand.{demand-less, demand-same}
 use Rattle.response.proofs.Exactness.{response-exact}
@@ -76,13 +77,13 @@ module _ (ts : List Task) (u : List ℕ) (i : ℕ) where
               omega (arith, x .least t (own-covers v most t (omega arith) y))))
         ]
 
-    -- task k below meets its deadline wherever task i is released no more often within its response time
+    -- task k below is done by its response time wherever task i is released no more often within it
     module _ (k : ℕ) (below : i < k) (w : 1 ≤ ownDemand (taskAt ts k)) where
-      pub released-meets : (p : ℕ) {r : ℕ} → r ≡ responseTime ts (set u i p) k → 1 ≤ r
-          → (q : ℕ) → ceiling r q ≤ ceiling r p → meets ts (set u i q) k ≡ true
-      released-meets p {r} is s q h =
+      pub released-covers : (p : ℕ) {r : ℕ} → r ≡ responseTime ts (set u i p) k → 1 ≤ r
+          → (q : ℕ) → ceiling r q ≤ ceiling r p → Covers (deadlineAt ts (set u i q) k) ts (set u i q) k r
+      released-covers p {r} is s q h =
           let c = rw (← is) at (response-exact (deadlineAt ts (set u i p) k) ts (set u i p) k w .covers (omega arith)) in
-          covers-meets ts k w (set u i q) {t = r} (record {
+          record {
             some = s;
             early = omega (arith, c .early, deadline-other k p (λ e. omega arith), deadline-other k q (λ e. omega arith));
             covers = omega (
@@ -93,11 +94,15 @@ module _ (ts : List Task) (u : List ℕ) (i : ℕ) where
                 | inr n ↦ rw (getD-set-other u i j p 0 n, getD-set-other u i j q 0 n) (omega arith)
               ]),
             );
-          })
+          }
 
-  -- and responds no earlier at a shorter period of task i
-  pub shorter-begins : (k : ℕ) → 1 ≤ ownDemand (taskAt ts k) → {y p r : ℕ} → ((j : ℕ) → j < k → 1 ≤ getD (set u i y) j 0)
-      → r ≡ responseTime ts (set u i p) k → 1 ≤ r → y ≤ p → Begins (deadlineAt ts (set u i y) k) ts (set u i y) k r
-  shorter-begins k w {y} {p} some is s l =
-      let x = response-exact (deadlineAt ts (set u i p) k) ts (set u i p) k w in
-      record { some = s; below = λ t c. rw is (x .least t (covers-up ts (set u i y) (set u i p) k t some (λ j h. set-mono u i l j) c) .1) }
+  -- and its climbs at a shorter period of task i begin no earlier
+  pub shorter-begins : (k : ℕ) {y p t : ℕ} → ((j : ℕ) → j < k → 1 ≤ getD (set u i y) j 0) → y ≤ p
+      → BeginsAt ts u i p k t → BeginsAt ts u i y k t
+  shorter-begins k {y} {p} some l b =
+      record { some = b .some; below = λ t c. b .below t (covers-up ts (set u i y) (set u i p) k t some (λ j h. set-mono u i l j) c) }
+
+-- a climb may begin at what it leads to
+pub response-begins : (limit : ℕ) (ts : List Task) (xs : List ℕ) (i : ℕ) → 1 ≤ ownDemand (taskAt ts i)
+    → {r : ℕ} → r ≡ responseUpTo limit ts xs i → 1 ≤ r → Begins limit ts xs i r
+response-begins limit ts xs i w is s = record { some = s; below = λ t c. rw is (response-exact limit ts xs i w .least t c .1) }

@@ -166,3 +166,13 @@ module _ {ts : List Task} {test : List ℕ → Bool} {R : Rule} {Carried : R .St
       })
       (λ e h. stopped 34 (suc rounds) (R .after s l) (inr refl) o)
       (λ e h. optimal left room (suc rounds) (R .after s l) (next R s ps) (carried-next s c o e) (open-next s c o e))
+
+  -- and with a state as it should be
+  pub carried-end : (left room rounds : ℕ) (s : R .State) (ps : List (List ℕ)) → Carried s → Open ts test ps
+      → Carried (searchFrom R left room rounds s ps .state)
+  carried-end zero room rounds s ps c o = rw (search-spent R room rounds s ps) c
+  carried-end (suc left) room rounds s ps c o =
+      round-cases R room rounds s ps left (λ e. Carried (e .state))
+      (λ e. c)
+      (λ e h. carried-next s c o e)
+      (λ e h. carried-end left room (suc rounds) _ (next R s ps) (carried-next s c o e) (open-next s c o e))

@@ -10,7 +10,7 @@ use lib.Dec.{ltb, eqb}
 use lib.ListN.{length, getD, drop, length-map, drop-of-length-le}
 use lib.Seq.{drop-cons}
 use Rattle.plan.specs.declared.record.Task.{Task}
-use Rattle.plan.specs.Tasks.{maxTasks, weights}
+use Rattle.plan.specs.Tasks.{maxTasks, AllValid, weights}
 use Rattle.plan.proofs.Valid.{valid-at}
 use Rattle.response.specs.Assignments.{cost, before, byCost, less}
 use Rattle.response.proofs.Order.{first-lt, first-eq, first-gt}
@@ -50,6 +50,17 @@ module _ {ws xs : List ℕ} (p : Weighed ws xs) {sum i : ℕ} (s : Summed ws xs 
           small = omega (arith, s .small, product-small);
           is = rw (add-one i, ew, ex) (omega (arith, rw (drop-cons ws i 0 l, drop-cons xs i 0 h) at (s .is)));
         }
+
+-- as many periods as there are valid tasks
+pub weighed : (ts : List Task) → AllValid ts → length ts ≤ maxTasks → {xs : List ℕ} → length xs ≡ length ts → Weighed (weights ts) xs
+weighed ts v few e = record {
+  few = omega arith;
+  sized = e ∙ sym (length-map ts (λ t. t .weight));
+  light = λ i. rw (weight-at ts i) (valid-at ts v i .weight-most);
+}
+
+pub weighed-count : (ts : List Task) {xs : List ℕ} → Weighed (weights ts) xs → length xs ≡ length ts
+weighed-count ts w = w .sized ∙ length-map ts (λ t. t .weight)
 
 -- the first i periods are the same
 pub record Tied (xs ys : List ℕ) (i : ℕ) : Type 0 where
@@ -116,11 +127,7 @@ module _ {ts : List Task} {work : List ℕ} {count n : ℕ} (o : Counts ts work 
 
       module _ {ws : List ℕ} (ew : ws ≡ weights ts) where
         pub node-weighed : Weighed ws p
-        node-weighed = rw ew (record {
-          few = node-few;
-          sized = node-sized ∙ sym (length-map ts (λ t. t .weight));
-          light = λ i. rw (weight-at ts i) (valid-at ts (o .holds .valid) i .weight-most);
-        })
+        node-weighed = rw ew (weighed ts (o .holds .valid) (o .holds .few) node-sized)
 
         pub node-costs : {c : ℕ} → c ≡ cost ws p → c ≡ cost (weights ts) (nodeOf ts work k)
         node-costs ec = rw (ew, rw (o .counts) at ep) at ec

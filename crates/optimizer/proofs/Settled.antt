@@ -66,11 +66,11 @@ module _ (ts : List Task) where
     ]
   ]
 
-module _ {ts : List Task} (v : AllValid ts) (budget room : ℕ) (xs : List ℕ) where
+module _ {ts : List Task} (v : AllValid ts) where
   met : (ys : List ℕ) → Feasible ts ys → schedulable ts ys ≡ true
   met ys f = covers-schedulable ts v ys (f .met)
 
-  feasible : (ys : List ℕ) → withinBounds ts ys ≡ true → schedulable ts ys ≡ true → Feasible ts ys
+  pub feasible : (ys : List ℕ) → withinBounds ts ys ≡ true → schedulable ts ys ≡ true → Feasible ts ys
   feasible ys b e = record { bounded = b; met = schedulable-covers ts v ys e }
 
   -- either the longest periods are schedulable, or nothing is
@@ -79,6 +79,7 @@ module _ {ts : List Task} (v : AllValid ts) (budget room : ℕ) (xs : List ℕ) 
       let w = within-true ts ys (f .bounded) in
       both (sound v .monotone ys (periodMaxs ts) w (maxs-within ts (ranged ts v)) (w .high) (met ys f)) e
 
+module _ {ts : List Task} (v : AllValid ts) (budget room : ℕ) (xs : List ℕ) where
   -- refused by 31 or 32
   pub settles-refused : (infeasibleFault ts .number ≡ 0 → ⊥) → Settles ts budget room (refused (infeasibleFault ts) .answer) xs
   settles-refused h =
@@ -87,10 +88,10 @@ module _ {ts : List Task} (v : AllValid ts) (budget room : ℕ) (xs : List ℕ) 
         numbers = inr (inl (b .0));
         answered = λ z. absurd (h z);
         cheapest = λ z. absurd (h z);
-        infeasible = λ k. none-feasible (b .1);
+        infeasible = λ k. none-feasible v (b .1);
         feasible = λ k. b .0;
         stopped = λ k ys f. omega arith;
-        unstopped = λ p q ys f. absurd (none-feasible (b .1) ys f);
+        unstopped = λ p q ys f. absurd (none-feasible v (b .1) ys f);
         few-rounds = omega arith;
         in-budget = omega arith;
       }
@@ -107,14 +108,14 @@ module _ {ts : List Task} (v : AllValid ts) (budget room : ℕ) (xs : List ℕ) 
       λ k. let n = of-two 31 k in elim (o .number) [ inl z ↦ omega arith | inr z ↦ omega (arith, of-two 33 z) ] in
       record {
         numbers = elim (o .number) [ inl z ↦ inl z | inr z ↦ inr (inr z) ];
-        answered = λ z. let a = o .answered z in (rw (is z) (feasible (e .periods) (a .0) (a .1)), rw (is z, eq-eqb (e .number) 0 z));
-        cheapest = λ z ys f d. elim (o .cheapest z ys (f .bounded) (met ys f)) [
+        answered = λ z. let a = o .answered z in (rw (is z) (feasible v (e .periods) (a .0) (a .1)), rw (is z, eq-eqb (e .number) 0 z));
+        cheapest = λ z ys f d. elim (o .cheapest z ys (f .bounded) (met v ys f)) [
           | inl q ↦ absurd (d (sym q ∙ sym (is z)))
           | inr q ↦ rw (is z) q
         ];
         infeasible = λ k. absurd (never k);
-        feasible = λ f. absurd (f (periodMaxs ts) (feasible (periodMaxs ts) (true-within ts _ (maxs-within ts (𝓛 .ranged))) (𝓛 .top)));
-        stopped = λ k ys f. o .stops (of-two 33 k .0) ys (f .bounded) (met ys f);
+        feasible = λ f. absurd (f (periodMaxs ts) (feasible v (periodMaxs ts) (true-within ts _ (maxs-within ts (𝓛 .ranged))) (𝓛 .top)));
+        stopped = λ k ys f. o .stops (of-two 33 k .0) ys (f .bounded) (met v ys f);
         unstopped = λ p q ys f. search-answers 𝓛 c budget room p q;
         few-rounds = search-rounds 𝓛 c budget room;
         in-budget = search-budget R budget room s (start ts);

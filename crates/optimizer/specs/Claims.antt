@@ -48,3 +48,10 @@ pub record Settles (ts : List Task) (budget room : ℕ) (a : Answer) (xs : List 
   -- "rounds never exceed the number of points within the bounds", nor the budget
   pub few-rounds : a .rounds ≤ assignmentCount ts
   pub in-budget : a .rounds ≤ budget
+
+-- BEST's stops, besides: "With 33 and 34 the point's space holds the best and the answer gives its cost."
+pub record Improves (ts : List Task) (a : Answer) (xs : List ℕ) : Type 0 where
+  -- "the best is on time", and within the bounds
+  pub incumbent : IsStop a → Feasible ts xs × (a .cost ≡ cost (weights ts) xs)
+  -- so the bound of a stop is at most the cost
+  pub bounded : IsStop a → a .bound ≤ a .cost

@@ -10,9 +10,9 @@ use Rattle.plan.specs.Tasks.{maxTasks, maxWeight, AllValid, periodMaxs, weights
 use Rattle.response.specs.Analysis.{schedulable}
 use Rattle.response.specs.Assignments.{cost, dominates, withinBounds}
 use Rattle.optimizer.specs.Nodes.{leastOf, without, dominatesSome, kept, SameNodes}
-use Rattle.optimizer.specs.Rule.{Rule, least, next}
+use Rattle.optimizer.specs.Rule.{Rule, End, least, next}
 use Rattle.optimizer.specs.Search.{child, childrenFrom}
-use Rattle.optimizer.specs.Promises.{Outcome, written}
+use Rattle.optimizer.specs.Promises.{Outcome, searched, written, bestSearched, bestWritten, Answers}
 use Rattle.optimizer.specs.declared.answer.Answer.{Answer}
 use Rattle.optimizer.specs.declared.children.Drops.{Drops}
 use Rattle.optimizer.specs.declared.children.Drops.the-variants.{All, One, Nothing}
@@ -147,7 +147,43 @@ pub record Searchable (ts : List Task) (o w : List ℕ) : Type 0 where
   pub given : Concludes ts o w
   pub top : schedulable ts (periodMaxs ts) ≡ true
 
+-- what a search's end comes to: for CHEAPEST or, where an incumbent is kept, for BEST; and what then is in the periods'
+-- space
+abbrev pub endedBy : Bool → List ℕ → End (List ℕ) → Outcome
+endedBy keeps ws e = cond keeps (bestSearched ws e) (searched ws e)
+
+abbrev pub writtenBy : Bool → Outcome → List ℕ → List ℕ
+writtenBy keeps x o = cond keeps (bestWritten x o) (written x o)
+
 -- the outcome of a search: its answer, and the periods' space o before and after
-pub record Ends (x : Outcome) (o o′ : List ℕ) (r : Answer) : Type 0 where
+pub record Ends (keeps : Bool) (x : Outcome) (o o′ : List ℕ) (r : Answer) : Type 0 where
   pub answer : r ≡ x .answer
-  pub periods : o′ ≡ written x o
+  pub periods : o′ ≡ cond keeps (x .periods) (written x o)
+
+-- that of a call: the work space w, too
+abbrev pub Leaves : Bool → Outcome → List ℕ → List ℕ → List ℕ → List ℕ → Answer → Type 0
+Leaves keeps x o o′ w w′ r = Answers x (writtenBy keeps x o) o′ w w′ r
+
+-- a node whose lowering is looked for, among tasks that are schedulable at their longest periods
+pub record LowersNode (ts : List Task) (node : List ℕ) : Type 0 where
+  pub valid : AllValid ts
+  pub some : 1 ≤ length ts
+  pub few : length ts ≤ maxTasks
+  pub bounded : withinBounds ts node ≡ true
+  pub top : schedulable ts (periodMaxs ts) ≡ true
+
+-- x is the lowering and c its cost, up to a limit; past it both are past
+pub record LowersUpTo (ws lowered : List ℕ) (limit : ℕ) (x : List ℕ) (c : ℕ) : Type 0 where
+  pub sized : length x ≡ length lowered
+  pub is : c ≤ limit → (x ≡ lowered) × (c ≡ cost ws lowered)
+  pub past : limit < c → limit < cost ws lowered
+
+-- schedulable periods within the bounds, at least the node's, to be lowered
+pub record Lowers (ts : List Task) (node x : List ℕ) : Type 0 where
+  pub valid : AllValid ts
+  pub some : 1 ≤ length ts
+  pub few : length ts ≤ maxTasks
+  pub bounded : withinBounds ts node ≡ true
+  pub within : withinBounds ts x ≡ true
+  pub above : (k : ℕ) → getD node k 0 ≤ getD x k 0
+  pub met : schedulable ts x ≡ true

@@ -1,4 +1,4 @@
--- What CHEAPEST promises, of any bytes, budget and spaces.
+-- What CHEAPEST and BEST promise, of any bytes, budget and spaces.
 use mathlib.Core.Path.{_≡_}
 use mathlib.Core.Bool.{Bool, true, not, _||_, cond}
 use mathlib.Core.List.{List, [], _∷_}
@@ -15,8 +15,8 @@ use Rattle.response.specs.Assignments.{cost}
 use Rattle.response.specs.Promises.{spaceFault}
 use Rattle.optimizer.specs.declared.answer.Answer.{Answer}
 use Rattle.optimizer.specs.Rule.{End}
-use Rattle.optimizer.specs.Search.{search}
-use Rattle.optimizer.specs.Claims.{Settles}
+use Rattle.optimizer.specs.Search.{search, incumbentSearch}
+use Rattle.optimizer.specs.Claims.{Settles, Improves}
 
 -- "24: work space shorter than n. Place 0."
 abbrev pub workFault : List Task → ℕ → Fault
@@ -63,17 +63,19 @@ searched ws e = record {
   periods = e .periods;
 }
 
--- of tasks, once the call's own rules have passed
-abbrev pub concluded : List Task → ℕ → ℕ → Outcome
-concluded ts budget room =
-    cond (passed (infeasibleFault ts)) (searched (weights ts) (search ts budget room)) (refused (infeasibleFault ts))
+-- of tasks, once the call's own rules have passed: 31 and 32, then what the search comes to
+abbrev pub concluded : List Task → Outcome → Outcome
+concluded ts x = cond (passed (infeasibleFault ts)) x (refused (infeasibleFault ts))
 
--- of a file's fault and tasks, a budget, and spaces of so many numbers
+-- of a file's fault and tasks, and spaces of so many numbers
+abbrev pub called : Fault → List Task → ℕ → ℕ → Outcome → Outcome
+called f ts space work x =
+    cond (passed (callFault f ts space work)) (concluded ts x) (refused (callFault f ts space work))
+
+-- and with a budget
 unfoldable pub outcomeOf : Fault → List Task → ℕ → ℕ → ℕ → Outcome
 outcomeOf f ts budget space work =
-    cond (passed (callFault f ts space work))
-    (concluded ts budget (roomOf ts work))
-    (refused (callFault f ts space work))
+    called f ts space work (searched (weights ts) (search ts budget (roomOf ts work)))
 
 abbrev pub outcome : List ℕ → ℕ → ℕ → ℕ → Outcome
 outcome s budget space work = outcomeOf (fileFault s) (tasksOf s) budget space work
@@ -89,15 +91,45 @@ isSearched number = eqb number 0 || leb 33 number
 abbrev pub cleared : Outcome → List ℕ → List ℕ
 cleared x w = cond (isSearched (x .answer .fault .number)) (replicate (length w) 0) w
 
--- an outcome returned, with the periods' space o and the work space w, before and after
-pub record Answers (x : Outcome) (o o′ w w′ : List ℕ) (r : Answer) : Type 0 where
+-- an outcome returned, the periods' space afterwards, which is to hold p, and the work space w before and after
+pub record Answers (x : Outcome) (p o′ w w′ : List ℕ) (r : Answer) : Type 0 where
   pub answer : r ≡ x .answer
-  pub periods : o′ ≡ written x o
+  pub periods : o′ ≡ p
   pub work : w′ ≡ cleared x w
 
 -- CHEAPEST, of a file's fault and tasks
 pub record Plans (f : Fault) (ts : List Task) (budget : ℕ) (o o′ w w′ : List ℕ) (r : Answer) : Type 0 where
-  pub answers : Answers (outcomeOf f ts budget (length o) (length w)) o o′ w w′ r
+  pub answers : let x = outcomeOf f ts budget (length o) (length w) in Answers x (written x o) o′ w w′ r
   -- demand 3
   pub settles : passed (callFault f ts (length o) (length w)) ≡ true
       → Settles ts budget (roomOf ts (length w)) r o′
+
+-- BEST's outcome of a search's end: with a stop "the point's space holds the best and the answer gives its cost"
+abbrev pub bestSearched : List ℕ → End (List ℕ) → Outcome
+bestSearched ws e = let xs = cond (eqb (e .number) 0) (e .periods) (e .state) in record {
+  answer = record { fault = fault (e .number) 0; cost = cost ws xs; rounds = e .rounds; bound = e .bound };
+  periods = xs;
+}
+
+unfoldable pub bestOutcomeOf : Fault → List Task → ℕ → ℕ → ℕ → Outcome
+bestOutcomeOf f ts budget space work =
+    called f ts space work (bestSearched (weights ts) (incumbentSearch ts budget (roomOf ts work)))
+
+-- the periods' space is written with an answer, 33 and 34
+abbrev pub bestWritten : Outcome → List ℕ → List ℕ
+bestWritten x o = cond (isSearched (x .answer .fault .number)) (x .periods) o
+
+-- the same number, place, rounds and bound
+pub record SameCourse (a b : Answer) : Type 0 where
+  pub fault : a .fault ≡ b .fault
+  pub rounds : a .rounds ≡ b .rounds
+  pub bound : a .bound ≡ b .bound
+
+-- BEST, of a file's fault and tasks
+pub record BestPlans (f : Fault) (ts : List Task) (budget : ℕ) (o o′ w w′ : List ℕ) (r : Answer) : Type 0 where
+  pub answers : let x = bestOutcomeOf f ts budget (length o) (length w) in Answers x (bestWritten x o) o′ w w′ r
+  -- demand 3, and a feasible assignment with a stop
+  pub settles : passed (callFault f ts (length o) (length w)) ≡ true
+      → Settles ts budget (roomOf ts (length w)) r o′ × Improves ts r o′
+  -- "an operation beside CHEAPEST": what CHEAPEST's answer says to the same call, but for the cost of a stop
+  pub as-cheapest : SameCourse r (outcomeOf f ts budget (length o) (length w) .answer)

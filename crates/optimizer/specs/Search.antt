@@ -1,5 +1,5 @@
--- CHEAPEST's rule: the children of a node, and the search.
-use mathlib.Core.Bool.{Bool, true, false}
+-- CHEAPEST's rule: the children of a node, and the search; BEST's, which carries an incumbent along.
+use mathlib.Core.Bool.{Bool, true, false, cond}
 use mathlib.Core.List.{List, [], _∷_}
 use Prim.Native.Nat.{ℕ, zero, suc}
 use lib.Dec.{ltb}
@@ -7,8 +7,10 @@ use lib.ListN.{length, getD, set}
 use Rattle.plan.specs.declared.record.Task.{Task}
 use Rattle.plan.specs.Tasks.{periodMins, periodMaxs, weights}
 use Rattle.response.specs.Analysis.{schedulable}
+use Rattle.response.specs.Assignments.{less}
 use Rattle.optimizer.specs.Rule.{Rule, End, searchFrom}
 use Rattle.optimizer.specs.Mua.{mua}
+use Rattle.optimizer.specs.Lowering.{lowering}
 
 -- "For each i with U_i below hi_i, a child is L with its i-th period set to U_i + 1."
 abbrev pub child : List ℕ → List ℕ → ℕ → List ℕ
@@ -41,3 +43,24 @@ start ts = periodMins ts ∷ []
 
 abbrev pub search : List Task → ℕ → ℕ → End (Unit {0})
 search ts budget room = searchFrom (rule ts (schedulable ts)) budget room 0 tt (start ts)
+
+-- BEST's incumbent (the requirement's best) after a round whose node is unschedulable: "The result becomes the best if
+-- it is less"
+abbrev pub improved : List Task → (List ℕ → Bool) → List ℕ → List ℕ → List ℕ
+improved ts test best node =
+    let x = lowering test (periodMaxs ts) node in cond (less (weights ts) x best) x best
+
+-- answers and children are CHEAPEST's
+abbrev pub incumbentRule : List Task → (List ℕ → Bool) → Rule
+incumbentRule ts test = let R = rule ts test in record {
+  State = List ℕ;
+  weights = R .weights;
+  answers = λ best node. R .answers tt node;
+  after = improved ts test;
+  children = λ best node. R .children tt node;
+}
+
+-- "It starts as the point of all high bounds."
+abbrev pub incumbentSearch : List Task → ℕ → ℕ → End (List ℕ)
+incumbentSearch ts budget room =
+    searchFrom (incumbentRule ts (schedulable ts)) budget room 0 (periodMaxs ts) (start ts)

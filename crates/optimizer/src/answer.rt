@@ -3,7 +3,8 @@ ghost use Rattle.plan.specs.Faults.{none, fault};
 ghost use Rattle.optimizer.specs.Promises.{refused};
 use plan::Fault;
 
-// CHEAPEST's answer: the number with its place, the cost of an answer, the rounds, and the bound of a stop.
+// CHEAPEST's and BEST's answer: the number with its place, the cost of an answer and, from BEST, of a stop, the rounds,
+// and the bound of a stop.
 pub struct Answer {
     pub fault: Fault,
     pub cost: u64,
@@ -34,12 +35,12 @@ impl Answer {
         }
     }
 
-    pub(crate) fn stopped(number: u32, rounds: u64, bound: u64) -> Answer
-        ensures { λ r. ⌜ r ≡ record { fault = fault number 0; cost = 0; rounds = rounds; bound = bound } ⌝ }
+    pub(crate) fn stopped(number: u32, cost: u64, rounds: u64, bound: u64) -> Answer
+        ensures { λ r. ⌜ r ≡ record { fault = fault number 0; cost = cost; rounds = rounds; bound = bound } ⌝ }
     {
         Answer {
             fault: Fault { number, place: 0 },
-            cost: 0,
+            cost,
             rounds,
             bound,
         }

@@ -1,66 +1,9 @@
-ghost use mathlib.Core.Path.{_≡_};
-ghost use Prim.Native.Nat.{_≤_};
-ghost use lib.ListN.{length};
-ghost use Rattle.plan.specs.Faults.{firstFrom};
-ghost use Rattle.plan.specs.Tasks.{maxTasks};
-ghost use Rattle.plan.specs.Table.{tasksIn};
 ghost use Rattle.plan.specs.Files.{fileFault, tasksOf};
 ghost use Rattle.plan.specs.Promises.{planTasks, Usable};
-ghost use Rattle.optimizer.specs.Inner.{Concludes};
-ghost use Rattle.optimizer.specs.Promises.{aloneFault, roomOf, concluded, Answers, Plans};
+ghost use Rattle.optimizer.specs.Promises.{Plans};
 use super::answer::Answer;
-use super::nodes::clear;
-use super::search::search;
-use plan::Fault;
+use super::call::run_call;
 use plan::Loaded;
-use plan::Plan;
-use response::deadline_at;
-use response::first_unschedulable;
-use response::own_demand;
-
-// Rule 31: the first task whose own demand exceeds its deadline at its longest period.
-fn alone_fault(tasks: &[u32]) -> Fault
-    requires { ⌜ length (tasksIn (now tasks)) ≤ maxTasks ⌝ }
-    ensures { λ r. ⌜ (let ts = tasksIn (now (tasks .entry)) in r ≡ firstFrom (aloneFault ts) (length ts) 0) ⌝ }
-{
-    let n = plan::task_count(tasks);
-    let mut i: usize = 0;
-    while i < n {
-        if deadline_at(tasks, i, plan::period_max(tasks, i)) < own_demand(tasks, i) {
-            return Fault {
-                number: 31,
-                place: (i + 1) as u32,
-            };
-        }
-        i += 1;
-    }
-    Fault::none()
-}
-
-// Rules 31 and 32, then the search, of which the work space keeps no trace.
-fn conclude(tasks: &[u32], budget: u64, periods: &mut [u32], work: &mut [u32]) -> Answer
-    requires { ⌜ Concludes (tasksIn (now tasks)) (now periods) (now work) ⌝ }
-    ensures { λ r. ⌜ (let ts = tasksIn (now (tasks .entry)) in
-        Answers (concluded ts budget (roomOf ts (length (now (work .entry)))))
-        (now (periods .entry)) (now (periods .exit)) (now (work .entry)) (now (work .exit)) r) ⌝ }
-{
-    let alone = alone_fault(tasks);
-    if alone.number != 0 {
-        return Answer::refused(alone);
-    }
-    let n = periods.len();
-    let longest = plan::column(tasks, Plan::PERIOD_MAX);
-    let missed = first_unschedulable(tasks, &longest[..n]);
-    if missed != 0 {
-        return Answer::refused(Fault {
-            number: 32,
-            place: missed,
-        });
-    }
-    let answer = search(tasks, budget, periods, work);
-    clear(work);
-    answer
-}
 
 // CHEAPEST of a plan that was loaded.
 pub fn cheapest_of(loaded: Loaded, budget: u64, periods: &mut [u32], work: &mut [u32]) -> Answer
@@ -68,26 +11,7 @@ pub fn cheapest_of(loaded: Loaded, budget: u64, periods: &mut [u32], work: &mut 
     ensures { λ r. ⌜ Plans (loaded .fault) (planTasks (loaded .plan)) budget
         (now (periods .entry)) (now (periods .exit)) (now (work .entry)) (now (work .exit)) r ⌝ }
 {
-    let fault = loaded.fault;
-    if fault.number != 0 {
-        return Answer::refused(fault);
-    }
-    let n = loaded.plan.tasks;
-    if periods.len() != n {
-        return Answer::refused(Fault {
-            number: 22,
-            place: 0,
-        });
-    }
-    if work.len() < n {
-        return Answer::refused(Fault {
-            number: 24,
-            place: 0,
-        });
-    }
-    let table = loaded.plan.table;
-    let size = Plan::ROW_FIELDS * n;
-    conclude(&table[..size], budget, periods, work)
+    run_call(loaded, budget, false, periods, work)
 }
 
 // CHEAPEST: the cheapest schedulable periods within the bounds, written where there are any; the work space is left

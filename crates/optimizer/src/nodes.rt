@@ -108,7 +108,7 @@ pub fn find_least(work: &[u32], tasks: &[u32], count: usize) -> Least
     }
 }
 
-// A node taken off the open ones, with its cost.
+// An assignment with its cost: a node taken off the open ones, or a lowering.
 pub struct Node {
     pub cost: u64,
     pub periods: [u32; Plan::MAX_TASKS],

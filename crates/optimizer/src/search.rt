@@ -1,45 +1,59 @@
 ghost use lib.ListN.{length};
 ghost use Rattle.plan.specs.Tasks.{weights};
 ghost use Rattle.plan.specs.Table.{tasksIn};
-ghost use Rattle.optimizer.specs.Search.{search};
-ghost use Rattle.optimizer.specs.Promises.{searched, roomOf};
-ghost use Rattle.optimizer.specs.Inner.{Searchable, Ends};
+ghost use Rattle.optimizer.specs.Search.{incumbentSearch};
+ghost use Rattle.optimizer.specs.Promises.{roomOf};
+ghost use Rattle.optimizer.specs.Inner.{Searchable, endedBy, Ends};
 use super::answer::Answer;
 use super::children::Step;
+use super::incumbent;
 use super::nodes;
 use super::round::run_round;
 use plan::Plan;
 
-// The rounds. The open nodes never run out: the longest periods are schedulable and dominate one of them.
-pub fn search(tasks: &[u32], budget: u64, periods: &mut [u32], work: &mut [u32]) -> Answer
+// The rounds. The open nodes never run out: the longest periods are schedulable and dominate one of them. The
+// incumbent, where one is kept, is in the periods' space; the open nodes have no part in it, nor it in them.
+pub fn search(
+    tasks: &[u32],
+    budget: u64,
+    keeps: bool,
+    periods: &mut [u32],
+    work: &mut [u32],
+) -> Answer
     requires { ⌜ Searchable (tasksIn (now tasks)) (now periods) (now work) ⌝ }
     ensures { λ r. ⌜ (let ts = tasksIn (now (tasks .entry)) in
-        Ends (searched (weights ts) (search ts budget (roomOf ts (length (now (work .entry))))))
+        Ends keeps (endedBy keeps (weights ts) (incumbentSearch ts budget (roomOf ts (length (now (work .entry))))))
         (now (periods .entry)) (now (periods .exit)) r) ⌝ }
 {
     let n = periods.len();
     let room = work.len() / n;
     let first = plan::column(tasks, Plan::PERIOD_MIN);
     nodes::place(work, 0, &first[..n]);
+    incumbent::begin(tasks, keeps, periods);
     let mut count: usize = 1;
     let mut rounds: u64 = 0;
     while rounds < budget {
         let done = run_round(tasks, work, count, room);
         rounds += 1;
         let step = done.step;
+        let periods_taken = done.node.periods;
+        let node = &periods_taken[..n];
         match step {
             Step::Answered => {
-                let found = done.node.periods;
-                nodes::write_node(periods, &found[..n]);
+                nodes::write_node(periods, node);
                 return Answer::answered(done.node.cost, rounds);
             }
             Step::Full => {
-                return Answer::stopped(34, rounds, done.node.cost);
+                incumbent::improve(tasks, keeps, periods, node);
+                let cost = incumbent::stop_cost(tasks, keeps, periods);
+                return Answer::stopped(34, cost, rounds, done.node.cost);
             }
             Step::Listed(listed) => {
+                incumbent::improve(tasks, keeps, periods, node);
                 count = listed;
             }
         }
     }
-    Answer::stopped(33, rounds, nodes::bound_of(work, tasks, count))
+    let cost = incumbent::stop_cost(tasks, keeps, periods);
+    Answer::stopped(33, cost, rounds, nodes::bound_of(work, tasks, count))
 }

@@ -1,57 +1,52 @@
 use mathlib.Core.Path.{_≡_, refl, sym, ap, _∙_}
-use Prim.Native.Nat.{ℕ, _-_}
+use Prim.Native.Nat.{_-_, _≤_}
 use borrow.Author.Needs.{needs}
 use native.Mathlib.Omega.{arith}
 use lib.ListN.{length, take, length-take}
 use Rattle.plan.specs.Tasks.{periodMins}
 use Rattle.plan.specs.Table.{tasksIn}
 use Rattle.plan.proofs.Tables.{column-mins}
-use Rattle.response.specs.Analysis.{schedulable}
-use Rattle.optimizer.specs.Rule.{End}
-use Rattle.optimizer.specs.Search.{rule}
-use Rattle.optimizer.specs.Search as specs
-use Rattle.optimizer.proofs.Branching.{lawful}
-use Rattle.optimizer.proofs.Settled.{sound}
-use Rattle.optimizer.proofs.Looping.{Looping, begins, of-room, ready, round-node, ends-spent, ends-answered, ends-full, goes-on}
+use Rattle.optimizer.specs.Search.{incumbentSearch}
+use Rattle.optimizer.specs.Inner.{LowersNode}
+use Rattle.optimizer.proofs.Looping.{ready}
+use Rattle.optimizer.proofs.Searching.{Searching, searches, searching-weighed, searching-node, searching-lowers}
+use Rattle.optimizer.proofs.Searching.{searching-spent, searching-answered, searching-full, searching-on, ends-called}
 use Rattle.optimizer.proofs.search.search.Statement.{statement}
 use Rattle.optimizer.proofs.search.search.Tie as tie
 
 abbrev Inv-loop : tie.InvT-loop
-Inv-loop tasks budget periods₀ work₀ n room count₀ rounds₀ periods work count rounds =
+Inv-loop tasks budget keeps periods₀ work₀ n room count₀ rounds₀ periods work count rounds =
     let ts = tasksIn tasks in
-    (periods ≡ periods₀)
-    × Looping ts (schedulable ts) (rule ts (schedulable ts)) (λ s. Unit {0}) (specs.search ts budget room) budget room (length work₀)
-    tt work count rounds
+    Searching ts keeps (incumbentSearch ts budget room) budget room (length work₀) periods₀ periods work count rounds
 
 abbrev μ-loop : tie.MeasureT-loop
-μ-loop tasks budget periods₀ work₀ n room count₀ rounds₀ periods work count rounds = budget - rounds
+μ-loop tasks budget keeps periods₀ work₀ n room count₀ rounds₀ periods work count rounds = budget - rounds
 
--- from the first node back to the start, from the loop's head to the placing of that node and to the start, from a round to the head
+-- from the first node back to the start, from the loop's head to the first incumbent and to the start
 abbrev begun : tie.After-first Inv-loop μ-loop → tie.Start Inv-loop μ-loop
 begun f = f .before .before .before .before .before .before
 
-abbrev placed : tie.At-loop Inv-loop μ-loop → tie.After-place Inv-loop μ-loop
-placed l = l .before .before .before
+abbrev kept : tie.At-loop Inv-loop μ-loop → tie.After-begin Inv-loop μ-loop
+kept l = l .before .before .before
+
+abbrev placed : tie.After-begin Inv-loop μ-loop → tie.After-place Inv-loop μ-loop
+placed b = b .before .before .before .before
 
 abbrev start : tie.At-loop Inv-loop μ-loop → tie.Start Inv-loop μ-loop
-start l = begun (placed l .before)
+start l = begun (placed (kept l) .before)
 
+-- from a round to the loop's head, from what it came to back to the round
 abbrev head : tie.After-run-round Inv-loop μ-loop → tie.At-loop Inv-loop μ-loop
 head d = d .before .before .before
 
--- from the answer back to the round
-abbrev wrote : tie.After-answered Inv-loop μ-loop → tie.After-write-node Inv-loop μ-loop
-wrote c = c .before .before .before
+abbrev answered : tie.After-enum-told Inv-loop μ-loop → tie.After-run-round Inv-loop μ-loop
+answered c = c .before .before .before .before .before .before
 
-abbrev told : tie.After-found2 Inv-loop μ-loop → tie.After-enum-told Inv-loop μ-loop
-told c = c .before .before .before
+abbrev full : tie.After-enum-told2 Inv-loop μ-loop → tie.After-run-round Inv-loop μ-loop
+full c = c .before .before .before .before .before .before
 
-abbrev done : tie.After-enum-told Inv-loop μ-loop → tie.After-run-round Inv-loop μ-loop
-done c = c .before .before .before .before
-
--- where the search leads with so much room
-abbrev goal : tie.At-loop Inv-loop μ-loop → ℕ → End (Unit {0})
-goal l room = specs.search (tasksIn (start l .args .tasks .now)) (start l .args .budget) room
+abbrev listed : tie.After-step Inv-loop μ-loop → tie.After-run-round Inv-loop μ-loop
+listed c = c .before .before .before .before .before .before
 
 -- the first node is the shortest periods
 first-is : (f : tie.After-first Inv-loop μ-loop) → let a = begun f .args in
@@ -62,79 +57,124 @@ first-is f =
 
 loop-holds : tie.Need-loop-holds Inv-loop μ-loop
 loop-holds c =
-    let p = c .before .before in
+    let b = c .before .before in
+    let p = placed b in
     let s = begun (p .before) in
-    let 𝓛 = lawful (sound (s .pre .given .valid)) (s .pre .top) in
-    (refl, begins 𝓛 tt tt (s .args .budget) (s .pre .given) (p .place .kept .0) (first-is (p .before)) (p .place .ensures))
+    searches (s .pre) (s .args .keeps) (s .args .budget) (p .place .kept .0) (first-is (p .before)) (p .place .ensures)
+    (b .begin .ensures) (b .begin .kept .1 .1 .0)
 
 -- the node of a round has as many periods as there are to write
 node-is : (d : tie.After-run-round Inv-loop μ-loop) → let n = length (start (head d) .args .periods .now) in
     n ≡ length (take n (d .run-round .result .node .periods))
 node-is d =
     let l = head d in
-    round-node (l .loop .inv .1) (d .before .before .loop-test .taken) (d .run-round .ensures) (start l .pre .given .sized)
+    searching-node (l .loop .inv) (d .before .before .loop-test .taken) (d .run-round .ensures) (start l .pre .given .sized)
 
-node-fits : tie.Need-array-share-prefix-found Inv-loop μ-loop
-node-fits c =
-    let d = done (c .before .before) in
-    omega (arith, node-is d, length-take (length (start (head d) .args .periods .now)) (d .run-round .result .node .periods))
+node-fits : (d : tie.After-run-round Inv-loop μ-loop)
+    → length (start (head d) .args .periods .now) ≤ length (d .run-round .result .node .periods)
+node-fits d = omega (arith, node-is d, length-take (length (start (head d) .args .periods .now)) (d .run-round .result .node .periods))
 
-write-node-requires : tie.Need-write-node-requires Inv-loop μ-loop
-write-node-requires c κs = let d = done (told c) in sym (node-is d) ∙ sym (ap length (head d .loop .inv .0))
+lowers : (d : tie.After-run-round Inv-loop μ-loop) → let a = start (head d) .args in
+    LowersNode (tasksIn (a .tasks .now)) (take (length (a .periods .now)) (d .run-round .result .node .periods))
+lowers d =
+    let l = head d in
+    searching-lowers (l .loop .inv) (d .before .before .loop-test .taken) (d .run-round .ensures) (start l .pre .given .sized)
 
 -- the spaces are as long as they were
-written-length : tie.Need-same-length Inv-loop μ-loop
-written-length c = let w = wrote c in w .write-node .kept .0 ∙ ap length (head (done (told (w .before))) .loop .inv .0)
+periods-length : (l : tie.At-loop Inv-loop μ-loop) → length (l .loop .periods) ≡ length (start l .args .periods .now)
+periods-length l = l .loop .inv .sized ∙ sym (start l .pre .given .sized)
 
 work-length : (l : tie.At-loop Inv-loop μ-loop) → length (l .loop .work) ≡ length (start l .args .work .now)
-work-length l = l .loop .inv .1 .long ∙ placed l .place .kept .0
+work-length l = l .loop .inv .looping .long ∙ placed (kept l) .place .kept .0
 
 round-length : (d : tie.After-run-round Inv-loop μ-loop)
     → length (d .run-round .last .1 .0) ≡ length (start (head d) .args .work .now)
 round-length d = d .run-round .kept .1 .0 ∙ work-length (head d)
 
+-- and the periods' space fits the node
+room-for : (d : tie.After-run-round Inv-loop μ-loop)
+    → length (head d .loop .periods) ≡ length (take (length (start (head d) .args .periods .now)) (d .run-round .result .node .periods))
+room-for d = periods-length (head d) ∙ node-is d
+
 returns : tie.Need-returns Inv-loop μ-loop
 returns c =
-    let w = wrote c in
-    let m = told (w .before) in
-    let d = done m in
+    let w = c .before .before .before in
+    let m = w .before .before in
+    let d = answered m in
     let l = head d in
-    of-room (start l .pre .given) (goal l)
-    (ends-answered (l .loop .inv .1) (d .before .before .loop-test .taken) (d .run-round .ensures) (m .enum-told .given .1)
-    (start l .pre .given .sized) (w .write-node .ensures) (c .answered .ensures))
+    let s = start l in
+    ends-called (s .pre .given) (s .args .keeps) (s .args .budget) (kept l .begin .ensures)
+    (searching-answered (l .loop .inv) (d .before .before .loop-test .taken) (d .run-round .ensures) (s .pre .given .sized)
+    (m .enum-told .given .1) (w .write-node .ensures) (c .answered .ensures))
+
+stop-cost-requires : tie.Need-stop-cost-requires Inv-loop μ-loop
+stop-cost-requires c κs =
+    let i = c .before .before .before in
+    let d = full (i .before .before) in
+    searching-weighed (head d .loop .inv) (i .improve .kept .1 .1 .0)
 
 returns-2 : tie.Need-returns-2 Inv-loop μ-loop
 returns-2 c =
-    let d = c .before .before .before .before .before in
+    let i = c .before .before .before .before .before in
+    let m = i .before .before in
+    let d = full m in
     let l = head d in
-    of-room (start l .pre .given) (goal l)
-    (ends-full (l .loop .inv .1) (d .before .before .loop-test .taken) (d .run-round .ensures) (c .before .enum-told2 .given .1)
-    (l .loop .inv .0) (c .stopped .ensures))
+    let s = start l in
+    ends-called (s .pre .given) (s .args .keeps) (s .args .budget) (kept l .begin .ensures)
+    (searching-full (l .loop .inv) (d .before .before .loop-test .taken) (d .run-round .ensures) (s .pre .given .sized)
+    (i .improve .ensures) (m .enum-told2 .given .1) (c .before .stop-cost .ensures) (c .stopped .ensures))
 
 loop-again : tie.Need-loop-again Inv-loop μ-loop
 loop-again c =
-    let d = c .before .before .before .before .before in
+    let i = c .before .before in
+    let m = i .before .before .before in
+    let d = listed m in
     let l = head d in
-    let t = d .before .before .loop-test .taken in
-    (l .loop .inv .0, goes-on (l .loop .inv .1) t (d .run-round .ensures) (c .before .step .given .1) (d .run-round .kept .1 .0))
+    searching-on (l .loop .inv) (d .before .before .loop-test .taken) (d .run-round .ensures) (start l .pre .given .sized)
+    (i .improve2 .ensures) (i .improve2 .kept .1 .1 .0) (m .step .given .1) (d .run-round .kept .1 .0)
 
 returns-3 : tie.Need-returns-3 Inv-loop μ-loop
 returns-3 c =
-    let x = c .before .before .before in
+    let b = c .before in
+    let x = c .before .before .before .before .before in
     let l = x .before in
-    of-room (start l .pre .given) (goal l)
-    (ends-spent (l .loop .inv .1) (x .loop-test .left) (c .before .bound-of .ensures) (l .loop .inv .0) (c .stopped2 .ensures))
+    let s = start l in
+    ends-called (s .pre .given) (s .args .keeps) (s .args .budget) (kept l .begin .ensures)
+    (searching-spent (l .loop .inv) (x .loop-test .left) (b .bound-of .ensures) (b .before .before .stop-cost2 .ensures)
+    (c .stopped2 .ensures))
 
 pub search-spec : {M : Type 1} → statement M
 search-spec =
     tie.close
     (tie.spec Inv-loop μ-loop (λ c. search needs) (λ c κs. search needs) (λ c. search needs)
-    (λ c. simp length-take (search needs)) (λ c κs. simp length-take (search needs)) loop-holds
-    (λ c κs. ready (c .before .before .loop .inv .1)) (λ c. search needs) (λ c. search needs) node-fits
-    (λ c. node-is (done (told c))) write-node-requires (λ c κs. search needs) written-length
-    (λ c. round-length (done (told (wrote c .before)))) returns (λ c. search needs) (λ c κs. search needs)
-    (λ c. ap length (head (c .before .before .before .before .before) .loop .inv .0))
-    (λ c. round-length (c .before .before .before .before .before)) returns-2 (λ c. search needs) (λ c. search needs)
-    loop-again (λ c κs. ready (c .before .before .loop .inv .1) .holds) (λ c κs. search needs)
-    (λ c. ap length (c .before .before .before .before .loop .inv .0))
-    (λ c. work-length (c .before .before .before .before)) returns-3)
+    (λ c. simp length-take (search needs)) (λ c κs. simp length-take (search needs))
+    (λ c κs. let p = c .before .before .before .before .before .before .before .before .before .before .pre .given in (p .few, p .sized))
+    loop-holds
+    (λ c κs. ready (c .before .before .loop .inv .looping))
+    (λ c. search needs)
+    (λ c. node-fits (c .before .before .before))
+    (λ c. node-is (c .before .before .before .before))
+    (λ c. search needs)
+    (λ c κs. sym (room-for (answered (c .before))))
+    (λ c κs. search needs)
+    (λ c. let w = c .before .before .before in w .write-node .kept .0 ∙ periods-length (head (answered (w .before .before))))
+    (λ c. round-length (answered (c .before .before .before .before .before)))
+    returns
+    (λ c. search needs)
+    (λ c κs. let d = full (c .before) in (lowers d, room-for d))
+    stop-cost-requires
+    (λ c κs. search needs)
+    (λ c. let i = c .before .before .before .before .before in
+    i .improve .kept .1 .1 .0 ∙ periods-length (head (full (i .before .before))))
+    (λ c. round-length (full (c .before .before .before .before .before .before .before)))
+    returns-2
+    (λ c. search needs)
+    (λ c κs. let d = listed (c .before .before) in (lowers d, room-for d))
+    (λ c. search needs)
+    loop-again
+    (λ c κs. searching-weighed (c .before .before .loop .inv) refl)
+    (λ c κs. ready (c .before .before .before .before .loop .inv .looping) .holds)
+    (λ c κs. search needs)
+    (λ c. periods-length (c .before .before .before .before .before .before))
+    (λ c. work-length (c .before .before .before .before .before .before))
+    returns-3)

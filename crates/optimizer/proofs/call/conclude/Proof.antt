@@ -9,8 +9,8 @@ use Rattle.response.specs.Analysis.{responseTimes, firstMissed}
 use Rattle.response.proofs.Missed.{first-schedulable}
 use Rattle.optimizer.proofs.Settled.{alone}
 use Rattle.optimizer.proofs.Concluding.{is-alone, is-none, concluded-refused, concluded-searched, longest-limits}
-use Rattle.optimizer.proofs.cheapest.conclude.Statement.{statement}
-use Rattle.optimizer.proofs.cheapest.conclude.Tie as tie
+use Rattle.optimizer.proofs.call.conclude.Statement.{statement}
+use Rattle.optimizer.proofs.call.conclude.Tie as tie
 
 -- where the call began, from where rule 31 was tested, and from where the longest periods were read
 abbrev start : tie.After-alone-fault → tie.Start
@@ -35,12 +35,12 @@ returns : tie.Need-returns
 returns c =
     let t = c .before in
     let f = t .before .before in
-    concluded-refused (t .if1 .taken) (c .refused .ensures) _ _ _ (is-alone _ (f .alone-fault .ensures) (t .if1 .taken))
+    concluded-refused (t .if1 .taken) (c .refused .ensures) (start f .args .keeps) _ _ (is-alone _ (f .alone-fault .ensures) (t .if1 .taken))
 
 returns-2 : tie.Need-returns-2
 returns-2 c =
     let t = c .before in
-    concluded-refused (λ z. omega arith) (c .refused2 .ensures) _ _ _
+    concluded-refused (λ z. omega arith) (c .refused2 .ensures) (start (tested (t .before .before .before)) .args .keeps) _ _
     (is-none _ (passes (t .before .before .before)) (missed-is (t .before)) (t .if2 .taken))
 
 search-requires : tie.Need-search-requires
@@ -54,8 +54,8 @@ returns-3 c =
     let s = c .before .before .before .before .before .before .before .before in
     let m = s .before .before .before in
     let l = m .before .before .before in
-    let cleared = c .before .before .clear .ensures ∙ ap (λ k. replicate k 0) (s .search .kept .1 .1 .1 .0) in
-    concluded-searched _ (passes l) (start (tested l) .pre .valid) (first-schedulable _ _ (sym (missed-is (m .before)) ∙ m .if2 .left)) _ _
+    let cleared = c .before .before .clear .ensures ∙ ap (λ k. replicate k 0) (s .search .kept .1 .1 .1 .1 .0) in
+    concluded-searched _ (passes l) (start (tested l) .pre .valid) (first-schedulable _ _ (sym (missed-is (m .before)) ∙ m .if2 .left)) (start (tested l) .args .keeps) _ _
     (s .search .ensures) cleared
 
 pub conclude-spec : {M : Type 1} → statement M

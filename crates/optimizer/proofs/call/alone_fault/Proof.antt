@@ -10,8 +10,8 @@ use Rattle.plan.specs.Table.{tasksIn}
 use Rattle.plan.specs.Faults.{firstFrom}
 use Rattle.plan.proofs.Rules.{run-task, run-next, run-end}
 use Rattle.optimizer.specs.Promises.{aloneFault}
-use Rattle.optimizer.proofs.cheapest.alone_fault.Statement.{statement}
-use Rattle.optimizer.proofs.cheapest.alone_fault.Tie as tie
+use Rattle.optimizer.proofs.call.alone_fault.Statement.{statement}
+use Rattle.optimizer.proofs.call.alone_fault.Tie as tie
 
 abbrev Inv-loop : tie.InvT-loop
 Inv-loop tasks n i₀ i = let ts = tasksIn tasks in firstFrom (aloneFault ts) (length ts) 0 ≡ firstFrom (aloneFault ts) (n - i) i

@@ -4,17 +4,17 @@ use mathlib.Core.Logic.{⊎-elim}
 use Prim.Native.Nat.{_+_, _-_, _≤_}
 use Rattle.plan.specs.Table.{tasksIn}
 use Rattle.response.specs.Inner.{maxTime}
-use Rattle.optimizer.proofs.Raising.{moved-length, Probing, probing-start, probing-end, probing-period, probing-climbs}
-use Rattle.optimizer.proofs.Raising.{probing-response, probing-releases, probing-miss, probing-meet}
-use Rattle.optimizer.proofs.mua.last_miss.Statement.{statement}
-use Rattle.optimizer.proofs.mua.last_miss.Tie as tie
+use Rattle.optimizer.proofs.Missing.{moved-length, Probing, seeks-probes, probing-start, probing-end, probing-responds}
+use Rattle.optimizer.proofs.Missing.{probing-period, probing-climbs, probing-response, probing-releases, probing-miss, probing-meet}
+use Rattle.optimizer.proofs.misses.last_miss.Statement.{statement}
+use Rattle.optimizer.proofs.misses.last_miss.Tie as tie
 
 abbrev Inv-loop : tie.InvT-loop
-Inv-loop tasks u₀ i k low most deadline last₀ high₀ start₀ turn₀ u last high start turn =
-    Probing (tasksIn tasks) u₀ i k low most deadline u last high start turn
+Inv-loop tasks u₀ i k low most start deadline last₀ high₀ response₀ turn₀ u last high response turn =
+    Probing (tasksIn tasks) u₀ i k low most deadline u last high response turn
 
 abbrev μ-loop : tie.MeasureT-loop
-μ-loop tasks u₀ i k low most deadline last₀ high₀ start₀ turn₀ u last high start turn = most + 1 - turn
+μ-loop tasks u₀ i k low most start deadline last₀ high₀ response₀ turn₀ u last high response turn = most + 1 - turn
 
 abbrev probed : tie.After-response-from Inv-loop μ-loop → tie.After-probe Inv-loop μ-loop
 probed c = c .before .before
@@ -24,9 +24,8 @@ at-loop c = c .before .before
 
 loop-holds : tie.Need-loop-holds Inv-loop μ-loop
 loop-holds c =
-    let p = c .before .before .before .before .before .pre in
-    probing-start (record { range = p .0; below = p .1 .0; inside = p .1 .1; limited = c .before .deadline-at .ensures })
-    (c .own-demand .ensures)
+    let p = c .before .before .before .before .pre in
+    probing-start (seeks-probes p (c .deadline-at .ensures)) (p .begins)
 
 response-from-requires : tie.Need-response-from-requires Inv-loop μ-loop
 response-from-requires c κs = probing-climbs (at-loop (c .before) .loop .inv) (c .before .probe .ensures)
@@ -63,12 +62,12 @@ same-length : tie.Need-same-length Inv-loop μ-loop
 same-length c = let g = c .before .loop .inv in moved-length (g .given .range .limits) (g .moved)
 
 returns : tie.Need-returns Inv-loop μ-loop
-returns c = let g = c .before .loop .inv in (probing-end g (search needs), g .moved)
+returns c = let g = c .before .loop .inv in (probing-end g (search needs), (probing-responds g (search needs), g .moved))
 
 pub last-miss-spec : {M : Type 1} → statement M
 last-miss-spec =
     tie.close
     (tie.spec Inv-loop μ-loop (λ c. search needs) (λ c. search needs) (λ c κs. search needs) (λ c. search needs)
-    (λ c κs. search needs) loop-holds (λ c. search needs) (λ c κs. search needs) (λ c. search needs)
+    loop-holds (λ c. search needs) (λ c κs. search needs) (λ c. search needs)
     (λ c. search needs) response-from-requires rounded-up-requires rounded-up-requires-2 (λ c. search needs) loop-less
     loop-again same-length returns)

@@ -1,0 +1,71 @@
+-- The incumbent: that it stays schedulable and within the bounds, and how the code replaces it.
+use mathlib.Core.Path.{_≡_, sym, _∙_}
+use mathlib.Core.Bool.{Bool, true, false}
+use mathlib.Core.Logic.{inl, inr}
+use mathlib.Core.List.{List}
+use Prim.Native.Nat.{ℕ}
+use native.Mathlib.Omega.{arith}
+use lib.ListN.{length}
+use Rattle.plan.specs.declared.record.Task.{Task}
+use Rattle.plan.specs.Tasks.{periodMaxs, weights}
+use Rattle.plan.proofs.Tests.{bool, le-or-lt, both}
+use Rattle.response.proofs.Order.{first-gt}
+use Rattle.response.specs.Analysis.{schedulable}
+use Rattle.response.specs.Assignments.{cost, before, byCost, less}
+use Rattle.response.proofs.Bounds.{Within, maxs-within}
+use Rattle.optimizer.specs.Lowering.{lowering}
+use Rattle.optimizer.specs.Search.{improved, rule, incumbentRule}
+use Rattle.optimizer.specs.Inner.{Weighed, LowersNode, LowersUpTo}
+use Rattle.optimizer.proofs.Scans.{weighed}
+use Rattle.optimizer.proofs.Maximal.{Sound}
+use Rattle.optimizer.proofs.Optimal.{Lawful}
+use Rattle.optimizer.proofs.Branching.{lawful}
+use Rattle.optimizer.proofs.Lowered.{lowering-meets}
+
+pub record Incumbent (ts : List Task) (test : List ℕ → Bool) (best : List ℕ) : Type 0 where
+  pub within : Within ts best
+  pub met : test best ≡ true
+
+module _ {ts : List Task} {test : List ℕ → Bool} (s : Sound ts test) (top : test (periodMaxs ts) ≡ true) where
+  pub incumbent-first : Incumbent ts test (periodMaxs ts)
+  incumbent-first = record { within = maxs-within ts (s .ranged); met = top }
+
+  incumbent-next : (best node : List ℕ) → Incumbent ts test best → Within ts node → Incumbent ts test (improved ts test best node)
+  incumbent-next best node b w =
+      let x = lowering test (periodMaxs ts) node in
+      let m = lowering-meets test w (s .ranged) top in
+      elim (bool (less (weights ts) x best)) [ inl e ↦ rw e (record { within = m .within; met = m .met }) | inr e ↦ rw e b ]
+
+  -- the rule that carries it answers and branches as CHEAPEST's
+  pub lawful-incumbent : Lawful ts test (incumbentRule ts test) (Incumbent ts test)
+  lawful-incumbent = let 𝓛 = lawful s top in record {
+    weighs = 𝓛 .weighs;
+    ranged = 𝓛 .ranged;
+    top = top;
+    answer = λ best node c w e. 𝓛 .answer tt node tt w e;
+    carried = λ best node c w e. incumbent-next best node c w;
+    branches = λ best node c w e. 𝓛 .branches tt node tt w e;
+  }
+
+pub lowers-weighed : {ts : List Task} {node xs : List ℕ} → LowersNode ts node → length xs ≡ length ts → Weighed (weights ts) xs
+lowers-weighed {ts} h e = weighed ts (h .valid) (h .few) e
+
+-- a lowering up to the incumbent's cost b, compared with the incumbent
+module _ (ts : List Task) (best node : List ℕ) {x : List ℕ} {b c : ℕ} (eb : b ≡ cost (weights ts) best)
+    (u : LowersUpTo (weights ts) (lowering (schedulable ts) (periodMaxs ts) node) b x c) {t : Bool} (et : t ≡ byCost c b x best) where
+  abbrev lowered : List ℕ
+  lowered = lowering (schedulable ts) (periodMaxs ts) node
+
+  pub improved-taken : t ≡ true → x ≡ improved ts (schedulable ts) best node
+  improved-taken h = elim (le-or-lt c b) [
+    | inl l ↦ let k = u .is l in
+        let e : less (weights ts) lowered best ≡ true = rw (k .1, k .0, eb) at (sym et ∙ h) in rw e (k .0)
+    | inr l ↦ absurd (both (sym et ∙ h) (first-gt c b _ l))
+  ]
+
+  pub improved-left : t ≡ false → best ≡ improved ts (schedulable ts) best node
+  improved-left h = elim (le-or-lt c b) [
+    | inl l ↦ let k = u .is l in
+        let e : less (weights ts) lowered best ≡ false = rw (k .1, k .0, eb) at (sym et ∙ h) in rw e
+    | inr l ↦ rw (first-gt (cost (weights ts) lowered) (cost (weights ts) best) (before lowered best) (omega (arith, eb, u .past l)))
+  ]
