@@ -1,3 +1,3 @@
 -- Laws of the answer block.
 mod Bytes  -- the bytes of the block
-mod Calling  -- the call
+pub mod Calling  -- the call

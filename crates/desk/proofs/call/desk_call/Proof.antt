@@ -39,9 +39,9 @@ returns-2 c =
     let t = after-load d in
     right-block
     (t .load-plan .ensures)
+    (w .before .before .before .before .periods2 .given)
     (d .cheapest-of .ensures)
     (length-replicate {A = ℕ} 16000 0)
-    (w .before .before .before .before .periods2 .given)
     (t .before .before .before .before .args .block .now)
     (omega arith)
     (w .write-block .ensures)

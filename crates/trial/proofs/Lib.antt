@@ -1,0 +1,2 @@
+-- Laws of BEST's call.
+mod Calling  -- the call

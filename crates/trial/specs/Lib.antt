@@ -1,0 +1,2 @@
+-- What BEST's call in DESK's block promises.
+pub mod Promises
