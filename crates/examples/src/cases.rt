@@ -5,6 +5,7 @@ use super::file::write;
 use super::list::all;
 use super::list::first;
 use super::list::first_mut;
+use super::planner::optimize;
 use super::print::labelled;
 use super::print::numbers;
 use super::print::text;
@@ -113,18 +114,19 @@ fn show_answer(r: Answer) {
     );
 }
 
-fn show_cheapest(file: &[u8], budget: u64, periods: &mut [u32], work: &mut [u32]) {
-    show_answer(optimizer::cheapest_periods(file, budget, periods, work));
+fn show_periods(file: &[u8], keeps: bool, budget: u64, periods: &mut [u32], work: &mut [u32]) {
+    show_answer(optimize(file, keeps, budget, periods, work));
     numbers(periods);
     show_work(work);
 }
 
-// CHEAPEST with the budget, the space for periods and the room of the call; the numbers of both spaces are 7.
-fn try_cheapest(call: &[u8], file: &[u8]) {
+// CHEAPEST, or BEST, with the budget, the space for periods and the room of the call; the numbers of both spaces are 7.
+fn try_periods(call: &[u8], file: &[u8], keeps: bool) {
     let mut periods = [7u32; 17];
     let mut work = [7u32; 16000];
-    show_cheapest(
+    show_periods(
         file,
+        keeps,
         given(call, 3),
         first_mut(&mut periods, given(call, 5) as usize),
         first_mut(&mut work, given(call, 7) as usize),
@@ -168,7 +170,8 @@ fn try_call(call: &[u8], input: &[u8; listing::INPUT_SIZE], size: usize)
     match byte(call, 1) {
         b'r' => try_read(file),
         b't' => try_times(call, file),
-        b'c' => try_cheapest(call, file),
+        b'c' => try_periods(call, file, false),
+        b'b' => try_periods(call, file, true),
         b'l' => try_list(call, file),
         b'p' => try_print(input, size),
         _ => {}

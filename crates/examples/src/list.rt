@@ -5,6 +5,13 @@ pub(crate) fn at(list: &[u32], i: usize) -> u32 {
     if i < list.len() { list[i] } else { 0 }
 }
 
+// Sets a number of a list, if it has it.
+pub(crate) fn set(list: &mut [u32], i: usize, v: u32) {
+    if i < list.len() {
+        list[i] = v;
+    }
+}
+
 // Adds to a counter.
 pub(crate) fn add(counts: &mut [u64], k: usize, n: u32) {
     if k < counts.len() {

@@ -1,3 +1,4 @@
+use super::assignments;
 use super::clock;
 use super::draw::draw_plan;
 use super::draw::sequence;
@@ -7,20 +8,21 @@ use super::planner;
 use super::print::labelled;
 use super::words::part;
 
-// TIMES at four period assignments, and CHEAPEST in four runs.
-fn compare_runs(sequence: &[u32], file: &[u8], rows: &[u32], optimum: &[u32], counts: &mut [u64]) {
+// TIMES at four period assignments, and CHEAPEST and BEST in four runs.
+fn compare_runs(sequence: &[u32], file: &[u8], rows: &[u32], met: &[u32], counts: &mut [u64]) {
     let mut k: usize = 0;
     while k < 4 {
         clock::compare(sequence, k, file, rows, counts);
-        planner::compare(sequence, k, file, rows, optimum, counts);
+        planner::compare(sequence, k, false, file, rows, met, counts);
+        planner::compare(sequence, k, true, file, rows, met, counts);
         k += 1;
     }
 }
 
 fn compare_file(sequence: &[u32], file: &[u8], rows: &[u32], counts: &mut [u64]) {
-    let optimum = planner::optimum(rows);
-    compare_runs(sequence, file, rows, &optimum, counts);
-    add(counts, 5, planner::assignments(rows));
+    let met = assignments::flags(rows);
+    compare_runs(sequence, file, rows, &met, counts);
+    add(counts, 5, assignments::assignments(rows));
 }
 
 fn compare_rows(sequence: &[u32], rows: &[u32], counts: &mut [u64]) {
@@ -44,16 +46,18 @@ fn compare_plans(counts: &mut [u64]) {
         seed = compare_plan(seed, counts);
         add(counts, 0, 1);
         add(counts, 4, 1);
+        add(counts, 12, 1);
         k += 1;
     }
 }
 
 pub(crate) fn run() {
-    let mut counts = [0u64; 12];
+    let mut counts = [0u64; 19];
     compare_plans(&mut counts);
     labelled(
         b"response times by the clock: plans| period assignments| missed deadlines| differences|
 cheapest periods by enumeration: plans| period assignments| answers| 31| 32| 33| 34| differences|
+best periods by enumeration: plans| answers| 31| 32| 33| 34| differences|
 ",
         &counts,
     );

@@ -1,10 +1,12 @@
-ghost use mathlib.Core.Path.{_≡_};
-ghost use lib.ListN.{length};
+use super::assignments::assignments;
+use super::assignments::cost;
+use super::assignments::optimum;
+use super::assignments::product;
+use super::assignments::within;
 use super::clock::first_flag;
 use super::clock::first_missed;
 use super::clock::lesser;
 use super::draw::draw;
-use super::draw::width;
 use super::list::add;
 use super::list::all;
 use super::list::at;
@@ -12,90 +14,23 @@ use super::list::begins;
 use super::list::column;
 use super::list::first_mut;
 use super::list::tasks;
+use super::rounds;
 use optimizer::Answer;
-use std::num::wrapping_add_u32;
+use std::num::wrapping_add_usize;
 
-// The product of two small numbers.
-fn product(a: u32, b: u32) -> u32 {
-    if a < 65536 {
-        if b < 65536 {
-            return a * b;
-        }
-    }
-    0
-}
-
-// How many period assignments up to three tasks have.
-pub(crate) fn assignments(rows: &[u32]) -> u32 {
-    product(width(rows, 0), product(width(rows, 1), width(rows, 2)))
-}
-
-// Assignment k of 512: each period one of eight from its lower bound on, the last task's counting fastest.
-fn assignment(rows: &[u32], k: u32) -> [u32; 3]
-    ensures { λ r. ⌜ length r ≡ 3 ⌝ }
-{
-    [
-        wrapping_add_u32(column(rows, 0, 1), k / 64 % 8),
-        wrapping_add_u32(column(rows, 1, 1), k / 8 % 8),
-        wrapping_add_u32(column(rows, 2, 1), k % 8),
-    ]
-}
-
-// The longest periods.
-fn longest(rows: &[u32]) -> [u32; 3]
-    ensures { λ r. ⌜ length r ≡ 3 ⌝ }
-{
-    [column(rows, 0, 2), column(rows, 1, 2), column(rows, 2, 2)]
-}
-
-fn cost(rows: &[u32], periods: &[u32]) -> u32 {
-    let a = product(column(rows, 0, 4), at(periods, 0));
-    let b = product(column(rows, 1, 4), at(periods, 1));
-    let c = product(column(rows, 2, 4), at(periods, 2));
-    wrapping_add_u32(a, wrapping_add_u32(b, c))
-}
-
-fn within(rows: &[u32], periods: &[u32]) -> bool {
-    at(periods, 0) <= column(rows, 0, 2)
-        && at(periods, 1) <= column(rows, 1, 2)
-        && at(periods, 2) <= column(rows, 2, 2)
-}
-
-// The cost of assignment k where it is within the bounds and schedulable, and else more than any.
-fn cost_of(rows: &[u32], k: u32) -> u32 {
-    let periods = assignment(rows, k);
-    if within(rows, &periods) && first_missed(rows, &periods) == 0 {
-        cost(rows, &periods)
+// CHEAPEST, or BEST, which keeps an incumbent.
+pub(crate) fn optimize(
+    file: &[u8],
+    keeps: bool,
+    budget: u64,
+    periods: &mut [u32],
+    work: &mut [u32],
+) -> Answer {
+    if keeps {
+        optimizer::best_periods(file, budget, periods, work)
     } else {
-        4294967295
+        optimizer::cheapest_periods(file, budget, periods, work)
     }
-}
-
-// The number of the cheapest assignment, the first of equal cost; 512 where none is schedulable.
-fn enumerate(rows: &[u32]) -> u32 {
-    let mut best: u32 = 512;
-    let mut least: u32 = 4294967295;
-    let mut k: u32 = 0;
-    while k < 512 {
-        let cost = cost_of(rows, k);
-        if cost < least {
-            best = k;
-            least = cost;
-        }
-        k += 1;
-    }
-    best
-}
-
-// The cheapest periods, or the longest where none are schedulable.
-pub(crate) fn optimum(rows: &[u32]) -> [u32; 3]
-    ensures { λ r. ⌜ length r ≡ 3 ⌝ }
-{
-    let best = enumerate(rows);
-    if best < 512 {
-        return assignment(rows, best);
-    }
-    longest(rows)
 }
 
 // A task's flag if its wcet exceeds its longest period or its cap, else 0.
@@ -110,11 +45,6 @@ fn alone_flag(rows: &[u32], task: usize, flag: u32) -> u32 {
 // The first such task, or 0.
 fn first_alone(rows: &[u32]) -> u32 {
     first_flag(alone_flag(rows, 0, 1) | alone_flag(rows, 1, 2) | alone_flag(rows, 2, 4))
-}
-
-// Both spaces, whose numbers were 7, behind a call without an answer.
-fn unanswered(cost: u64, periods: &[u32], work: &[u32], left: u32) -> bool {
-    cost == 0 && all(periods, 7) && all(work, left)
 }
 
 // 31 at the first task that is infeasible alone, or 32 at the first that misses its deadline at the longest periods.
@@ -132,7 +62,9 @@ fn right_refusal(r: Answer, rows: &[u32], missed: u32, periods: &[u32], work: &[
     right_place(r, rows, missed)
         && r.rounds == 0
         && r.bound == 0
-        && unanswered(r.cost, periods, work, 7)
+        && r.cost == 0
+        && all(periods, 7)
+        && all(work, 7)
 }
 
 fn right_answer(r: Answer, rows: &[u32], optimum: &[u32], periods: &[u32], work: &[u32]) -> bool {
@@ -153,77 +85,131 @@ fn is_short(rows: &[u32], budget: u64, room: usize) -> bool {
     budget < assignments(rows) as u64 || room < enough(rows)
 }
 
+// Whether no period is below its lower bound.
+fn not_below(rows: &[u32], periods: &[u32]) -> bool {
+    column(rows, 0, 1) <= at(periods, 0)
+        && column(rows, 1, 1) <= at(periods, 1)
+        && column(rows, 2, 1) <= at(periods, 2)
+}
+
+// An incumbent: schedulable periods within the bounds, that cost at least what the cheapest do and at least the bound.
+fn right_incumbent(r: Answer, rows: &[u32], least: u32, periods: &[u32]) -> bool {
+    not_below(rows, periods)
+        && within(rows, periods)
+        && first_missed(rows, periods) == 0
+        && r.cost == cost(rows, periods) as u64
+        && least as u64 <= r.cost
+        && r.bound <= r.cost
+}
+
+// What a stop leaves: an incumbent, where one is kept, and else nothing.
+fn right_left(r: Answer, rows: &[u32], keeps: bool, least: u32, periods: &[u32]) -> bool {
+    if keeps {
+        right_incumbent(r, rows, least, periods)
+    } else {
+        r.cost == 0 && all(periods, 7)
+    }
+}
+
 // A stop: 33, at the budget, or 34, with a bound of at most the least cost.
-fn right_stop(r: Answer, least: u32, budget: u64, periods: &[u32], work: &[u32]) -> bool {
+fn right_stop(r: Answer, least: u32, budget: u64) -> bool {
     (r.fault.number == 34 || r.fault.number == 33 && r.rounds == budget)
         && r.fault.place == 0
         && r.bound <= least as u64
-        && unanswered(r.cost, periods, work, 0)
 }
 
 fn right_rounds(rounds: u64, rows: &[u32], budget: u64) -> bool {
     rounds <= budget && rounds <= assignments(rows) as u64
 }
 
-// Whether all of an answer is that of the enumeration.
-fn right(
+// An answer or a stop, where some periods are schedulable.
+fn right_end(
     r: Answer,
     rows: &[u32],
     optimum: &[u32],
+    keeps: bool,
     budget: u64,
     periods: &[u32],
     work: &[u32],
 ) -> bool {
-    let missed = first_missed(rows, optimum);
-    if missed != 0 {
-        right_refusal(r, rows, missed, periods, work)
-    } else if !right_rounds(r.rounds, rows, budget) {
-        false
-    } else if r.fault.number == 0 {
+    if r.fault.number == 0 {
         right_answer(r, rows, optimum, periods, work)
     } else {
+        let least = cost(rows, optimum);
         is_short(rows, budget, work.len())
-            && right_stop(r, cost(rows, optimum), budget, periods, work)
+            && right_stop(r, least, budget)
+            && right_left(r, rows, keeps, least, periods)
+            && all(work, 0)
     }
 }
 
-// Where an answer's number is counted; 11 for a difference.
+// Whether all of an answer is that of the enumeration, and an incumbent's search that of plain rounds.
+fn right(
+    r: Answer,
+    rows: &[u32],
+    met: &[u32],
+    keeps: bool,
+    budget: u64,
+    periods: &[u32],
+    work: &[u32],
+) -> bool {
+    let optimum = optimum(rows, met);
+    let missed = first_missed(rows, &optimum);
+    if missed != 0 {
+        right_refusal(r, rows, missed, periods, work)
+    } else {
+        right_rounds(r.rounds, rows, budget)
+            && right_end(r, rows, &optimum, keeps, budget, periods, work)
+            && (!keeps || rounds::agrees(r, rows, met, budget, work.len(), periods))
+    }
+}
+
+// Where a number is counted among the answers, 31, 32, 33, 34 and, as any other, the differences.
 fn counter(number: u32) -> usize {
     match number {
-        0 => 6,
-        31 => 7,
-        32 => 8,
-        33 => 9,
-        34 => 10,
-        _ => 11,
+        0 => 0,
+        31 => 1,
+        32 => 2,
+        33 => 3,
+        34 => 4,
+        _ => 5,
     }
 }
 
-// The counter of CHEAPEST's answer.
+// The counter of an answer.
 fn judge(
     file: &[u8],
     rows: &[u32],
-    optimum: &[u32],
+    met: &[u32],
+    keeps: bool,
     budget: u64,
     periods: &mut [u32],
     work: &mut [u32],
 ) -> usize {
-    let r = optimizer::cheapest_periods(file, budget, periods, work);
-    if right(r, rows, optimum, budget, periods, work) {
+    let r = optimize(file, keeps, budget, periods, work);
+    if right(r, rows, met, keeps, budget, periods, work) {
         counter(r.fault.number)
     } else {
-        11
+        5
     }
 }
 
 // One run, with fresh spaces.
-fn judge_run(file: &[u8], rows: &[u32], optimum: &[u32], budget: u64, room: usize) -> usize {
+fn judge_run(
+    file: &[u8],
+    rows: &[u32],
+    met: &[u32],
+    keeps: bool,
+    budget: u64,
+    room: usize,
+) -> usize {
     let mut periods = [7u32; 3];
     let mut work = [7u32; 1536];
     judge(
         file,
         rows,
-        optimum,
+        met,
+        keeps,
         budget,
         first_mut(&mut periods, tasks(rows) as usize),
         first_mut(&mut work, room),
@@ -248,17 +234,24 @@ fn room(sequence: &[u32], k: usize, rows: &[u32]) -> usize {
     }
 }
 
-// Compares CHEAPEST with the enumeration in run k of four: with enough budget and room, with little of the one, the
-// other and both.
+// The first counter of CHEAPEST, or of BEST.
+fn first_counter(keeps: bool) -> usize {
+    if keeps { 13 } else { 6 }
+}
+
+// Compares CHEAPEST, or BEST, with the enumeration in run k of four: with enough budget and room, with little of the
+// one, the other and both.
 pub(crate) fn compare(
     sequence: &[u32],
     k: usize,
+    keeps: bool,
     file: &[u8],
     rows: &[u32],
-    optimum: &[u32],
+    met: &[u32],
     counts: &mut [u64],
 ) {
     let budget = budget(sequence, k, rows);
     let room = room(sequence, k, rows);
-    add(counts, judge_run(file, rows, optimum, budget, room), 1);
+    let counter = judge_run(file, rows, met, keeps, budget, room);
+    add(counts, wrapping_add_usize(first_counter(keeps), counter), 1);
 }

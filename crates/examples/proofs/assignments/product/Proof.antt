@@ -1,8 +1,8 @@
 use native.Mathlib.Omega.{arith}
 use native.Mathlib.Nat.{mul-le-mul}
 use borrow.Author.Needs.{needs}
-use Rattle.examples.proofs.planner.product.Statement.{statement}
-use Rattle.examples.proofs.planner.product.Tie as tie
+use Rattle.examples.proofs.assignments.product.Statement.{statement}
+use Rattle.examples.proofs.assignments.product.Tie as tie
 
 mul-result : tie.Need-mul-result
 mul-result c =
