@@ -1,5 +1,6 @@
-//! compare [SEED]: calls desk_call on many plan files, sound and damaged, and
-//! holds each block byte for byte to model.rs.
+//! compare [SEED]: calls desk_call, and best_call with BEST in CHEAPEST's place, on
+//! many plan files, sound and damaged, and holds each block byte for byte to
+//! model.rs, and the two to each other.
 //! Small plans are also solved by trying every assignment. One seed always
 //! gives the same files. Exit status 0 when all agree and every number came.
 
@@ -8,7 +9,7 @@
 mod model;
 mod plans;
 
-use model::{Outcome, Task};
+use model::{Node, Outcome, Outcomes, Task};
 use plans::{
     damaged_file, dearest_plan, encode, extreme_plan, infeasible_plan, loaded_plan, named, put, random_plan,
     small_plan, sound_file, tight, Layout, Random, FILE_MAX,
@@ -18,7 +19,10 @@ use std::process::exit;
 
 extern "C" {
     fn desk_call(file: *const u8, file_len: usize, block: *mut u8, block_len: usize, budget: u64) -> u32;
+    fn best_call(file: *const u8, file_len: usize, block: *mut u8, block_len: usize, budget: u64) -> u32;
 }
+
+type Call = unsafe extern "C" fn(*const u8, usize, *mut u8, usize, u64) -> u32;
 
 const DEFAULT_SEED: u64 = 20_240_229;
 const BLOCK: usize = 100;
@@ -53,11 +57,31 @@ impl Lent {
     }
 }
 
-fn call(file: &Lent, block: &mut Lent, budget: u64) -> u32 {
+/// What a call returned and left behind.
+struct Made {
+    number: u32,
+    block: Lent,
+    block_before: Vec<u8>,
+    file_holds: bool,
+}
+
+fn make(call: Call, random: &mut Random, file: &[u8], content: &[u8], budget: u64) -> Made {
+    let file = lend(random, file);
+    let file_before = file.bytes.clone();
+    let mut block = lend(random, content);
+    let block_before = block.bytes.clone();
     let (at, length) = (block.at, block.length);
     let space = &mut block.bytes[at..at + length];
     // Sound: both parts are live for their lengths and do not overlap.
-    unsafe { desk_call(file.content().as_ptr(), file.length, space.as_mut_ptr(), length, budget) }
+    let number = unsafe { call(file.content().as_ptr(), file.length, space.as_mut_ptr(), length, budget) };
+    Made { number, block, block_before, file_holds: file.bytes == file_before }
+}
+
+/// Whether two blocks agree in all that CHEAPEST and BEST share: number and place,
+/// rounds, bound and n; all of it where the search did not stop.
+fn shared_alike(one: &[u8], other: &[u8]) -> bool {
+    let stopped = one[0] == 33 || one[0] == 34;
+    one[..8] == other[..8] && one[16..36] == other[16..36] && (stopped || one == other)
 }
 
 // Comparison.
@@ -84,46 +108,56 @@ impl Comparison {
         exit(1)
     }
 
-    /// One call, against the model; returns what the model says.
-    fn check(&mut self, random: &mut Random, file: &[u8], budget: u64) -> Outcome {
-        let outcome = model::desk(file, budget);
-        let lent = lend(random, file);
-        let lent_before = lent.bytes.clone();
-        let old = [random.next() as u8; BLOCK];
-        let mut block = lend(random, &old);
-        let block_before = block.bytes.clone();
-        let number = call(&lent, &mut block, budget);
-        self.calls += 1;
+    /// One call held to what the model says of it.
+    fn hold(&self, made: &Made, file: &[u8], budget: u64, outcome: &Outcome) {
         let held = [
-            ("the returned number differs", number == outcome.number),
-            ("the block differs", block.content() == model::block(&outcome)),
-            ("a byte around the block changed", block.guards_hold(&block_before)),
-            ("the file or a byte around it changed", lent.bytes == lent_before),
+            ("the returned number differs", made.number == outcome.number),
+            ("the block differs", made.block.content() == model::block(outcome)),
+            ("a byte around the block changed", made.block.guards_hold(&made.block_before)),
+            ("the file or a byte around it changed", made.file_holds),
         ];
         for (what, holds) in held {
             if !holds {
-                self.fail(what, file, budget, &outcome, block.content());
+                self.fail(what, file, budget, outcome, made.block.content());
             }
         }
+    }
+
+    /// Both calls, against each other and against the model; returns what the
+    /// model says.
+    fn check(&mut self, random: &mut Random, file: &[u8], budget: u64) -> Outcomes {
+        let outcomes = model::desk(file, budget);
+        let old = [random.next() as u8; BLOCK];
+        let desk = make(desk_call, random, file, &old, budget);
+        let best = make(best_call, random, file, &old, budget);
+        self.calls += 2;
+        if !shared_alike(desk.block.content(), best.block.content()) {
+            self.fail("the two calls differ", file, budget, &outcomes.best, best.block.content());
+        }
+        self.hold(&desk, file, budget, &outcomes.cheapest);
+        self.hold(&best, file, budget, &outcomes.best);
+        let Outcome { number, place, .. } = outcomes.cheapest;
         self.times[number as usize] += 1;
-        self.places[number as usize].insert(outcome.place);
-        outcome
+        self.places[number as usize].insert(place);
+        outcomes
     }
 
     /// A block of a wrong length: 25 before anything of the file, nothing written.
+    fn check_length(&mut self, call: Call, random: &mut Random, file: &[u8], length: usize) {
+        let budget = random.next();
+        let made = make(call, random, file, &vec![0x5a; length], budget);
+        self.calls += 1;
+        if made.number != 25 || made.block.bytes != made.block_before || !made.file_holds {
+            let outcome = Outcome { number: 25, ..Outcome::default() };
+            self.fail("a block of a wrong length", file, budget, &outcome, made.block.content());
+        }
+        self.times[25] += 1;
+    }
+
     fn check_lengths(&mut self, random: &mut Random, file: &[u8]) {
         for length in [0, 1, 99, 101, 1_000] {
-            let lent = lend(random, file);
-            let lent_before = lent.bytes.clone();
-            let mut block = lend(random, &vec![0x5a; length]);
-            let block_before = block.bytes.clone();
-            let number = call(&lent, &mut block, random.next());
-            self.calls += 1;
-            if number != 25 || block.bytes != block_before || lent.bytes != lent_before {
-                let outcome = Outcome { number: 25, ..Outcome::default() };
-                self.fail("a block of a wrong length", file, 0, &outcome, block.content());
-            }
-            self.times[25] += 1;
+            self.check_length(desk_call, random, file, length);
+            self.check_length(best_call, random, file, length);
         }
     }
 
@@ -135,15 +169,20 @@ impl Comparison {
     }
 }
 
+/// The time test by its definition.
+fn schedulable_by_scan(tasks: &[Task], periods: &[u64]) -> bool {
+    (0..tasks.len()).all(|i| model::response_time_by_scan(tasks, periods, i).is_some())
+}
+
 /// The least schedulable assignment by trying them all, with the time test by
 /// its definition; and how many assignments there are.
-fn by_trying_all(tasks: &[Task]) -> (Option<model::Node>, u64) {
-    let mut least: Option<model::Node> = None;
+fn by_trying_all(tasks: &[Task]) -> (Option<Node>, u64) {
+    let mut least: Option<Node> = None;
     let mut count = 0;
     let mut periods: Vec<u64> = tasks.iter().map(|task| task.period_min).collect();
     loop {
         count += 1;
-        if (0..tasks.len()).all(|i| model::response_time_by_scan(tasks, &periods, i).is_some()) {
+        if schedulable_by_scan(tasks, &periods) {
             let found = model::node(tasks, periods.clone());
             if least.as_ref().map_or(true, |least| found < *least) {
                 least = Some(found);
@@ -159,17 +198,53 @@ fn by_trying_all(tasks: &[Task]) -> (Option<model::Node>, u64) {
     }
 }
 
-/// What the demands say of an outcome, against every assignment.
-fn demands_hold(outcome: &Outcome, least: &Option<model::Node>, count: u64, budget: u64, room: u64) -> bool {
+/// The lowering by its definition: every value up from the node's in turn, with
+/// the time test by its definition.
+fn lowering_by_scan(tasks: &[Task], node: &[u64]) -> Vec<u64> {
+    let mut lowered = model::highest(tasks);
+    for i in 0..tasks.len() {
+        lowered[i] = node[i];
+        while !schedulable_by_scan(tasks, &lowered) {
+            lowered[i] += 1;
+        }
+    }
+    lowered
+}
+
+/// What a stop says of its incumbent, against the least of all.
+fn incumbent_holds(tasks: &[Task], best: &Outcome, least: &Node) -> bool {
+    let within = |(task, period): (&Task, &u64)| task.period_min <= *period && *period <= task.period_max;
+    best.periods.len() == tasks.len()
+        && tasks.iter().zip(&best.periods).all(within)
+        && schedulable_by_scan(tasks, &best.periods)
+        && best.cost == model::node(tasks, best.periods.clone()).cost
+        && least.cost <= best.cost
+        && best.bound <= best.cost
+}
+
+/// What the demands say of the outcomes, against every assignment.
+fn demands_hold(
+    tasks: &[Task],
+    outcomes: &Outcomes,
+    least: &Option<Node>,
+    count: u64,
+    budget: u64,
+    space: u64,
+) -> bool {
+    let Outcomes { cheapest, best } = outcomes;
     let Some(least) = least else {
-        return outcome.number == 31 || outcome.number == 32;
+        return cheapest.number == 31 || cheapest.number == 32;
     };
-    let stop_allowed = budget < count || room < count;
-    outcome.rounds <= count
-        && match outcome.number {
-            0 => outcome.cost == least.cost && outcome.periods == least.periods,
-            33 => outcome.bound <= least.cost && stop_allowed && outcome.rounds == budget,
-            34 => outcome.bound <= least.cost && stop_allowed && outcome.rounds <= budget,
+    let stop_holds = || {
+        (budget < count || space / (tasks.len() as u64) < count)
+            && cheapest.bound <= least.cost
+            && incumbent_holds(tasks, best, least)
+    };
+    cheapest.rounds <= count
+        && match cheapest.number {
+            0 => cheapest.cost == least.cost && cheapest.periods == least.periods,
+            33 => stop_holds() && cheapest.rounds == budget,
+            34 => stop_holds() && cheapest.rounds <= budget,
             _ => false,
         }
 }
@@ -183,17 +258,21 @@ fn small_plans(comparison: &mut Comparison, random: &mut Random, count: u64) {
         for budget in
             [random.of(&[0, 1, 2]), random.within(3, 30), random.of(&[assignments, 1 << 32, 1 << 63, u64::MAX])]
         {
-            let outcome = comparison.check(random, &file, budget);
-            let room = model::WORK_SPACE / tasks.len() as u64;
-            if !demands_hold(&outcome, &least, assignments, budget, room) {
-                comparison.fail("not what trying all gives", &file, budget, &outcome, &[]);
+            let outcomes = comparison.check(random, &file, budget);
+            if !demands_hold(&tasks, &outcomes, &least, assignments, budget, model::WORK_SPACE) {
+                comparison.fail("not what trying all gives", &file, budget, &outcomes.best, &[]);
             }
         }
         // The model alone in a small work space: 34 comes often there.
         let space = random.within(tasks.len() as u64, 24);
-        let outcome = model::cheapest(&tasks, u64::MAX, space);
-        if !demands_hold(&outcome, &least, assignments, u64::MAX, space / tasks.len() as u64) {
-            comparison.fail("in a small space: not what trying all gives", &file, u64::MAX, &outcome, &[]);
+        let outcomes = model::search(&tasks, u64::MAX, space);
+        if !demands_hold(&tasks, &outcomes, &least, assignments, u64::MAX, space) {
+            comparison.fail("in a small space: not what trying all gives", &file, u64::MAX, &outcomes.best, &[]);
+        }
+        // The model's lowering of any node, against its definition.
+        let node: Vec<u64> = tasks.iter().map(|task| random.within(task.period_min, task.period_max)).collect();
+        if least.is_some() && model::lowering(&tasks, &node) != lowering_by_scan(&tasks, &node) {
+            comparison.fail("the lowering differs", &file, 0, &Outcome { periods: node, ..Outcome::default() }, &[]);
         }
     }
 }
@@ -259,14 +338,23 @@ fn examples() {
             let [cost, rounds, bound] = numbers;
             let n = tasks.len() as u32;
             let wanted = Outcome { number, place, cost, rounds, bound, n, periods: periods.to_vec() };
-            assert_eq!(model::cheapest(tasks, budget, space), wanted);
+            let outcomes = model::search(tasks, budget, space);
+            assert_eq!(outcomes, Outcomes { cheapest: wanted.clone(), best: wanted });
         };
+    // A stop: CHEAPEST gives no periods, BEST the incumbent.
+    let stops = |tasks: &[Task], budget: u64, space: u64, number: u32, numbers: [u64; 3], periods: &[u64]| {
+        let [cost, rounds, bound] = numbers;
+        let cheapest = Outcome { number, rounds, bound, n: tasks.len() as u32, ..Outcome::default() };
+        let best = Outcome { cost, periods: periods.to_vec(), ..cheapest.clone() };
+        assert_eq!(model::search(tasks, budget, space), Outcomes { cheapest, best });
+    };
     let ample = model::WORK_SPACE;
     says(&p, 100, ample, 0, 0, [6, 4, 0], &[2, 4]);
-    for (budget, bound) in [(0, 2), (1, 4), (2, 5), (3, 6)] {
-        says(&p, budget, ample, 33, 0, [0, budget, bound], &[]);
+    stops(&p, 0, ample, 33, [14, 0, 2], &[6, 8]);
+    for (budget, bound) in [(1, 4), (2, 5), (3, 6)] {
+        stops(&p, budget, ample, 33, [6, budget, bound], &[2, 4]);
     }
-    says(&p, 9, 2, 34, 0, [0, 2, 4], &[]);
+    stops(&p, 9, 2, 34, [6, 2, 4], &[2, 4]);
     says(&named(&[(1, 1, 6, 1_000, 1), (2, 1, 8, 1_000, 3)]), 100, ample, 0, 0, [12, 3, 0], &[3, 3]);
     says(&named(&[(1, 1, 6, 1_000, 1), (2, 1, 8, 3, 1)]), 100, ample, 0, 0, [6, 3, 0], &[3, 3]);
     says(&named(&[(1, 1, 1, 1_000, 1), (2, 1, 8, 1_000, 1)]), 100, ample, 32, 2, [0, 0, 0], &[]);
@@ -274,17 +362,27 @@ fn examples() {
     says(&named(&[(5, 3, 10, 4, 1)]), 100, ample, 31, 1, [0, 0, 0], &[]);
 }
 
-/// Plans made by hand: plan S, which must stop with 34, the dearest answer
-/// (16,000,000,000) and the smallest and longest files.
+/// Plans made by hand: plan S, which must stop with 34, a late incumbent, the
+/// dearest answer (16,000,000,000) and the smallest and longest files.
 fn chosen_files(comparison: &mut Comparison, random: &mut Random) {
     let s = encode(&plan_s(), &tight(6));
     comparison.files += 1;
-    let outcome = comparison.check(random, &s, u64::MAX);
+    let outcome = comparison.check(random, &s, u64::MAX).cheapest;
     if (outcome.number, outcome.bound, outcome.rounds) != (34, 1_448, 13_870) {
         comparison.fail("plan S", &s, u64::MAX, &outcome, &[]);
     }
     // The round that overfills the space gives 34 even as the last one.
     comparison.file(random, &s, &[13_870, 0, 1, 2, 500]);
+
+    // Here that round still improves the incumbent.
+    let weights = [13, 20, 37, 40, 50, 57, 60, 61, 71, 86, 87, 98, 100];
+    let late = encode(&named(&weights.map(|weight| (1, 10, 39, 1_000, weight))), &tight(weights.len()));
+    comparison.files += 1;
+    let full = comparison.check(random, &late, u64::MAX).best;
+    let before = comparison.check(random, &late, full.rounds - 1).best;
+    if full.number != 34 || before.number != 33 || full.cost >= before.cost {
+        comparison.fail("the last round's incumbent", &late, u64::MAX, &full, &[]);
+    }
 
     let p = encode(&plan_p(), &tight(2));
     comparison.file(random, &p, &[0, 1, 2, 3, 4, 5, 100_000, 1 << 32, (1 << 32) + 3, 1 << 63, u64::MAX]);
@@ -293,7 +391,7 @@ fn chosen_files(comparison: &mut Comparison, random: &mut Random) {
     let dearest = dearest_plan();
     let file = encode(&dearest, &Layout { rows: 16, names: FILE_MAX - 256, total: FILE_MAX });
     comparison.files += 1;
-    let outcome = comparison.check(random, &file, 1);
+    let outcome = comparison.check(random, &file, 1).cheapest;
     if (outcome.number, outcome.cost, outcome.rounds) != (0, 16_000_000_000, 1) {
         comparison.fail("the dearest plan", &file, 1, &outcome, &[]);
     }
@@ -407,7 +505,7 @@ fn main() {
         let (n, percent) = (random.within(12, 16), random.within(60, 80));
         loaded_plan(random, n, percent, true)
     };
-    sound_plans(&mut comparison, random, 14, overfull, |_| vec![u64::MAX]);
+    sound_plans(&mut comparison, random, 10, overfull, |_| vec![u64::MAX]);
     let complete = coverage(&comparison);
     println!("{} files, {} calls, seed {seed}: all as the model says", comparison.files, comparison.calls);
     if !complete {

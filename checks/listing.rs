@@ -156,7 +156,7 @@ impl Comparison {
 fn brief(random: &mut Random, make: impl Fn(&mut Random) -> Vec<u8>) -> Vec<u8> {
     loop {
         let file = make(random);
-        if model::desk(&file, FEW_ROUNDS).number != 33 {
+        if model::desk(&file, FEW_ROUNDS).cheapest.number != 33 {
             return file;
         }
     }
@@ -249,7 +249,7 @@ fn lengths(comparison: &mut Comparison) {
 /// middle, at the last byte, past the limit; and one byte at a time. Of the sample
 /// plans only those with a short search: each is run several times.
 fn in_parts(comparison: &mut Comparison, random: &mut Random, samples: &[Vec<u8>]) {
-    for file in samples.iter().filter(|file| model::desk(file, 1_000).number != 33) {
+    for file in samples.iter().filter(|file| model::desk(file, 1_000).cheapest.number != 33) {
         for cut in [0, 1, 15, 16, 17, file.len() / 2, file.len() - 1, file.len()] {
             comparison.cut(file, cut);
         }

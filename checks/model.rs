@@ -1,7 +1,7 @@
 //! docs/FORMAT.md in plain Rust: the file rules, the exact test of Lehoczky, Sha
-//! and Ding, the search round by round, the desk's block and the listing. It goes
-//! the plainest way everywhere and is 64 bits wide throughout;
-//! nothing here is shared with what it checks.
+//! and Ding, the search round by round with its incumbent, the desk's block and
+//! the listing. It goes the plainest way everywhere and is 64 bits wide
+//! throughout; nothing here is shared with what it checks.
 
 pub const WORK_SPACE: u64 = 16_000;
 const LISTING_BUDGET: u64 = 100_000;
@@ -31,6 +31,13 @@ pub struct Outcome {
     pub bound: u64,
     pub n: u32,
     pub periods: Vec<u64>,
+}
+
+/// CHEAPEST's outcome and BEST's of one search.
+#[derive(Clone, Debug, PartialEq)]
+pub struct Outcomes {
+    pub cheapest: Outcome,
+    pub best: Outcome,
 }
 
 fn number_at(file: &[u8], at: usize, width: usize) -> u64 {
@@ -159,8 +166,9 @@ fn first_late(tasks: &[Task], periods: &[u64]) -> Option<usize> {
     (0..tasks.len()).find(|&i| response_time(tasks, periods, i).is_none())
 }
 
+/// The lowest task first: it is mostly the late one.
 pub fn schedulable(tasks: &[Task], periods: &[u64]) -> bool {
-    first_late(tasks, periods).is_none()
+    (0..tasks.len()).rev().all(|i| response_time(tasks, periods, i).is_some())
 }
 
 /// A listed assignment. The derived order is that of the search: cost, then the
@@ -202,26 +210,68 @@ fn mua(tasks: &[Task], periods: &[u64]) -> Vec<u64> {
     mua
 }
 
-/// CHEAPEST with a work space of `space` numbers, at least n.
-pub fn cheapest(tasks: &[Task], budget: u64, space: u64) -> Outcome {
+pub fn highest(tasks: &[Task]) -> Vec<u64> {
+    tasks.iter().map(|task| task.period_max).collect()
+}
+
+/// From the highest periods, which are schedulable: each in turn lowered to the
+/// least value, not below the node's, that leaves the whole schedulable. Bisection
+/// finds it, as above.
+pub fn lowering(tasks: &[Task], node: &[u64]) -> Vec<u64> {
+    let mut lowered = highest(tasks);
+    for i in 0..tasks.len() {
+        lowered[i] = node[i];
+        if schedulable(tasks, &lowered) {
+            continue;
+        }
+        let mut late = node[i];
+        let mut on_time = tasks[i].period_max;
+        while on_time - late > 1 {
+            let middle = late + (on_time - late) / 2;
+            lowered[i] = middle;
+            if schedulable(tasks, &lowered) {
+                on_time = middle;
+            } else {
+                late = middle;
+            }
+        }
+        lowered[i] = on_time;
+    }
+    lowered
+}
+
+/// An answer or a refusal, which both operations share.
+fn shared(outcome: Outcome) -> Outcomes {
+    Outcomes { best: outcome.clone(), cheapest: outcome }
+}
+
+/// A stop, at which BEST gives the incumbent.
+fn stop(outcome: Outcome, incumbent: Node) -> Outcomes {
+    let best = Outcome { cost: incumbent.cost, periods: incumbent.periods, ..outcome.clone() };
+    Outcomes { cheapest: outcome, best }
+}
+
+/// CHEAPEST and BEST with a work space of `space` numbers, at least n.
+pub fn search(tasks: &[Task], budget: u64, space: u64) -> Outcomes {
     let mut outcome = Outcome { n: tasks.len() as u32, ..Outcome::default() };
     let alone = |task: &Task| task.wcet > task.period_max.min(task.deadline_cap);
     if let Some(i) = tasks.iter().position(alone) {
-        return Outcome { number: 31, place: i as u32 + 1, ..outcome };
+        return shared(Outcome { number: 31, place: i as u32 + 1, ..outcome });
     }
-    let highest: Vec<u64> = tasks.iter().map(|task| task.period_max).collect();
-    if let Some(i) = first_late(tasks, &highest) {
-        return Outcome { number: 32, place: i as u32 + 1, ..outcome };
+    if let Some(i) = first_late(tasks, &highest(tasks)) {
+        return shared(Outcome { number: 32, place: i as u32 + 1, ..outcome });
     }
     let room = space / tasks.len() as u64;
     let mut open = vec![node(tasks, tasks.iter().map(|task| task.period_min).collect())];
+    let mut incumbent = node(tasks, highest(tasks));
     while outcome.rounds < budget {
         let least = (0..open.len()).min_by_key(|&k| &open[k]).expect("an open node");
         let taken = open.swap_remove(least);
         outcome.rounds += 1;
         if schedulable(tasks, &taken.periods) {
-            return Outcome { cost: taken.cost, periods: taken.periods, ..outcome };
+            return shared(Outcome { cost: taken.cost, periods: taken.periods, ..outcome });
         }
+        incumbent = incumbent.min(node(tasks, lowering(tasks, &taken.periods)));
         let mua = mua(tasks, &taken.periods);
         let mut children = Vec::new();
         for i in 0..tasks.len() {
@@ -234,19 +284,20 @@ pub fn cheapest(tasks: &[Task], budget: u64, space: u64) -> Outcome {
             }
         }
         if (open.len() + children.len()) as u64 > room {
-            return Outcome { number: 34, bound: taken.cost, ..outcome };
+            return stop(Outcome { number: 34, bound: taken.cost, ..outcome }, incumbent);
         }
         open.append(&mut children);
     }
     let least = open.iter().min().expect("an open node");
-    Outcome { number: 33, bound: least.cost, ..outcome }
+    stop(Outcome { number: 33, bound: least.cost, ..outcome }, incumbent)
 }
 
-/// What DESK writes into a block of 100 bytes.
-pub fn desk(file: &[u8], budget: u64) -> Outcome {
+/// What DESK writes into a block of 100 bytes, and what it would with BEST in
+/// CHEAPEST's place.
+pub fn desk(file: &[u8], budget: u64) -> Outcomes {
     match read(file) {
-        Ok(tasks) => cheapest(&tasks, budget, WORK_SPACE),
-        Err((number, place)) => Outcome { number, place, ..Outcome::default() },
+        Ok(tasks) => search(&tasks, budget, WORK_SPACE),
+        Err((number, place)) => shared(Outcome { number, place, ..Outcome::default() }),
     }
 }
 
@@ -270,7 +321,8 @@ pub fn listing(input: &[u8]) -> String {
         Ok(tasks) => tasks,
         Err((number, place)) => return format!("refused {number} {place}\n"),
     };
-    let Outcome { number, place, cost, rounds, bound, periods, .. } = cheapest(&tasks, LISTING_BUDGET, WORK_SPACE);
+    let outcome = search(&tasks, LISTING_BUDGET, WORK_SPACE).cheapest;
+    let Outcome { number, place, cost, rounds, bound, periods, .. } = outcome;
     match number {
         0 => format!("cost {cost} rounds {rounds}\n") + &lines(&tasks, &periods),
         33 | 34 => format!("refused {number} {place} bound {bound} rounds {rounds}\n"),
