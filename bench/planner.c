@@ -1,7 +1,7 @@
 /* The planner in plain C, as a measure for the proved one: docs/FORMAT.md's rule,
  * with the costs kept beside the nodes and no work space to clear. The way to a
  * maximal unschedulable assignment is bisection or, with JUMPS defined, the
- * product's. */
+ * product's. With BEST defined, too, it is BEST and not CHEAPEST. */
 #include "planner.h"
 
 #include <string.h>
@@ -189,13 +189,18 @@ static int comes_first(const uint32_t *a, const uint32_t *b, uint32_t n)
     return 0;
 }
 
+static int is_less(uint64_t a_cost, const uint32_t *a, uint64_t b_cost, const uint32_t *b, uint32_t n)
+{
+    return a_cost < b_cost || (a_cost == b_cost && comes_first(a, b, n));
+}
+
 static uint32_t least_open(const struct open_nodes *open, uint32_t n)
 {
     uint32_t least = 0;
 
     for (uint32_t k = 1; k < open->count; k++)
-        if (open->cost[k] < open->cost[least] ||
-            (open->cost[k] == open->cost[least] && comes_first(open->periods + k * n, open->periods + least * n, n)))
+        if (open->cost[k] <= open->cost[least] && /* mostly decides by itself */
+            is_less(open->cost[k], open->periods + k * n, open->cost[least], open->periods + least * n, n))
             least = k;
     return least;
 }
@@ -264,7 +269,20 @@ static int list_children(struct open_nodes *open, const struct plan *plan, uint3
     return 1;
 }
 
-static void cheapest(const struct plan *plan, uint64_t budget, struct outcome *outcome)
+static void write_periods(const struct plan *plan, const uint32_t *periods, uint64_t cost, struct outcome *outcome)
+{
+    outcome->cost = cost;
+    memcpy(outcome->periods, periods, plan->n * sizeof *periods);
+}
+
+#ifdef BEST
+#ifndef JUMPS
+#error "BEST goes the way of JUMPS only"
+#endif
+#include "incumbent.h"
+#endif
+
+static void search(const struct plan *plan, uint64_t budget, struct outcome *outcome)
 {
     struct open_nodes open;
     uint32_t n = plan->n;
@@ -281,6 +299,9 @@ static void cheapest(const struct plan *plan, uint64_t budget, struct outcome *o
     }
     open.count = 0;
     list(&open, plan, plan->period_min);
+#ifdef BEST
+    begin_incumbent(plan, outcome);
+#endif
     while (outcome->rounds < budget) {
         uint32_t node[TASKS_MAX];
         uint32_t least = least_open(&open, n);
@@ -289,10 +310,12 @@ static void cheapest(const struct plan *plan, uint64_t budget, struct outcome *o
         outcome->rounds++;
         reference_open_nodes = open.count;
         if (is_schedulable(plan, node)) {
-            outcome->cost = cost;
-            memcpy(outcome->periods, node, n * sizeof *node);
+            write_periods(plan, node, cost, outcome);
             return;
         }
+#ifdef BEST
+        improve(plan, node, cost, outcome);
+#endif
         if (!list_children(&open, plan, node)) {
             outcome->number = 34;
             outcome->bound = cost;
@@ -324,7 +347,7 @@ uint32_t reference_call(const uint8_t *file, size_t file_len, uint8_t *block, si
     outcome.number = read_plan(file, file_len, &plan, &outcome.place);
     if (outcome.number == 0) {
         outcome.n = plan.n;
-        cheapest(&plan, budget, &outcome);
+        search(&plan, budget, &outcome);
     }
     block = put(block, outcome.number, 4);
     block = put(block, outcome.place, 4);
