@@ -1,11 +1,10 @@
 -- The incumbent: that it stays schedulable and within the bounds, and how the code replaces it.
-use mathlib.Core.Path.{_≡_, sym, _∙_}
+use mathlib.Core.Path.{_≡_, sym, ap, _∙_}
 use mathlib.Core.Bool.{Bool, true, false}
 use mathlib.Core.Logic.{inl, inr}
 use mathlib.Core.List.{List}
 use Prim.Native.Nat.{ℕ}
 use native.Mathlib.Omega.{arith}
-use lib.ListN.{length}
 use Rattle.plan.specs.declared.record.Task.{Task}
 use Rattle.plan.specs.Tasks.{periodMaxs, weights}
 use Rattle.plan.proofs.Tests.{bool, le-or-lt, both}
@@ -15,8 +14,7 @@ use Rattle.response.specs.Assignments.{cost, before, byCost, less}
 use Rattle.response.proofs.Bounds.{Within, maxs-within}
 use Rattle.optimizer.specs.Lowering.{lowering}
 use Rattle.optimizer.specs.Search.{improved, rule, incumbentRule}
-use Rattle.optimizer.specs.Inner.{Weighed, LowersNode, LowersUpTo}
-use Rattle.optimizer.proofs.Scans.{weighed}
+use Rattle.optimizer.specs.Inner.{LowersUpTo, stopCost}
 use Rattle.optimizer.proofs.Maximal.{Sound}
 use Rattle.optimizer.proofs.Optimal.{Lawful}
 use Rattle.optimizer.proofs.Branching.{lawful}
@@ -47,8 +45,10 @@ module _ {ts : List Task} {test : List ℕ → Bool} (s : Sound ts test) (top : 
     branches = λ best node c w e. 𝓛 .branches tt node tt w e;
   }
 
-pub lowers-weighed : {ts : List Task} {node xs : List ℕ} → LowersNode ts node → length xs ≡ length ts → Weighed (weights ts) xs
-lowers-weighed {ts} h e = weighed ts (h .valid) (h .few) e
+-- the cost of a kept incumbent
+pub stop-kept : (ts : List Task) (keeps : Bool) (best : List ℕ) → keeps ≡ true → {c : ℕ} → c ≡ stopCost ts keeps best
+    → c ≡ cost (weights ts) best
+stop-kept ts keeps best k e = rw k at e
 
 -- a lowering up to the incumbent's cost b, compared with the incumbent
 module _ (ts : List Task) (best node : List ℕ) {x : List ℕ} {b c : ℕ} (eb : b ≡ cost (weights ts) best)
@@ -60,6 +60,12 @@ module _ (ts : List Task) (best node : List ℕ) {x : List ℕ} {b c : ℕ} (eb 
   improved-taken h = elim (le-or-lt c b) [
     | inl l ↦ let k = u .is l in
         let e : less (weights ts) lowered best ≡ true = rw (k .1, k .0, eb) at (sym et ∙ h) in rw e (k .0)
+    | inr l ↦ absurd (both (sym et ∙ h) (first-gt c b _ l))
+  ]
+
+  pub improved-costs : t ≡ true → c ≡ cost (weights ts) x
+  improved-costs h = elim (le-or-lt c b) [
+    | inl l ↦ let k = u .is l in k .1 ∙ ap (cost (weights ts)) (sym (k .0))
     | inr l ↦ absurd (both (sym et ∙ h) (first-gt c b _ l))
   ]
 

@@ -155,6 +155,10 @@ endedBy keeps ws e = cond keeps (bestSearched ws e) (searched ws e)
 abbrev pub writtenBy : Bool → Outcome → List ℕ → List ℕ
 writtenBy keeps x o = cond keeps (bestWritten x o) (written x o)
 
+-- the cost of a stop: the incumbent's, where one is kept
+abbrev pub stopCost : List Task → Bool → List ℕ → ℕ
+stopCost ts keeps best = cond keeps (cost (weights ts) best) 0
+
 -- the outcome of a search: its answer, and the periods' space o before and after
 pub record Ends (keeps : Bool) (x : Outcome) (o o′ : List ℕ) (r : Answer) : Type 0 where
   pub answer : r ≡ x .answer

@@ -29,7 +29,7 @@ pub fn search(
     let room = work.len() / n;
     let first = plan::column(tasks, Plan::PERIOD_MIN);
     nodes::place(work, 0, &first[..n]);
-    incumbent::begin(tasks, keeps, periods);
+    let mut best_cost = incumbent::begin(tasks, keeps, periods);
     let mut count: usize = 1;
     let mut rounds: u64 = 0;
     while rounds < budget {
@@ -44,16 +44,22 @@ pub fn search(
                 return Answer::answered(done.node.cost, rounds);
             }
             Step::Full => {
-                incumbent::improve(tasks, keeps, periods, node);
-                let cost = incumbent::stop_cost(tasks, keeps, periods);
-                return Answer::stopped(34, cost, rounds, done.node.cost);
+                let bound = done.node.cost;
+                best_cost = incumbent::improve(tasks, keeps, periods, best_cost, node, bound);
+                return Answer::stopped(34, best_cost, rounds, bound);
             }
             Step::Listed(listed) => {
-                incumbent::improve(tasks, keeps, periods, node);
+                best_cost = incumbent::improve(
+                    tasks,
+                    keeps,
+                    periods,
+                    best_cost,
+                    node,
+                    done.node.cost,
+                );
                 count = listed;
             }
         }
     }
-    let cost = incumbent::stop_cost(tasks, keeps, periods);
-    Answer::stopped(33, cost, rounds, nodes::bound_of(work, tasks, count))
+    Answer::stopped(33, best_cost, rounds, nodes::bound_of(work, tasks, count))
 }

@@ -3,24 +3,26 @@ use Prim.Native.Nat.{_-_, _≤_}
 use borrow.Author.Needs.{needs}
 use native.Mathlib.Omega.{arith}
 use lib.ListN.{length, take, length-take}
-use Rattle.plan.specs.Tasks.{periodMins}
+use Rattle.plan.specs.Tasks.{periodMins, weights}
 use Rattle.plan.specs.Table.{tasksIn}
+use Rattle.response.specs.Assignments.{cost}
 use Rattle.plan.proofs.Tables.{column-mins}
 use Rattle.optimizer.specs.Search.{incumbentSearch}
-use Rattle.optimizer.specs.Inner.{LowersNode}
+use Rattle.optimizer.specs.Inner.{LowersNode, stopCost}
 use Rattle.optimizer.proofs.Looping.{ready}
-use Rattle.optimizer.proofs.Searching.{Searching, searches, searching-weighed, searching-node, searching-lowers}
+use Rattle.optimizer.proofs.Searching.{Searching, searches, searching-costs, searching-node, searching-lowers}
 use Rattle.optimizer.proofs.Searching.{searching-spent, searching-answered, searching-full, searching-on, ends-called}
+use Rattle.optimizer.proofs.Searching.{begin-asks}
 use Rattle.optimizer.proofs.search.search.Statement.{statement}
 use Rattle.optimizer.proofs.search.search.Tie as tie
 
 abbrev Inv-loop : tie.InvT-loop
-Inv-loop tasks budget keeps periods₀ work₀ n room count₀ rounds₀ periods work count rounds =
+Inv-loop tasks budget keeps periods₀ work₀ n room best-cost₀ count₀ rounds₀ periods work best-cost count rounds =
     let ts = tasksIn tasks in
-    Searching ts keeps (incumbentSearch ts budget room) budget room (length work₀) periods₀ periods work count rounds
+    Searching ts keeps (incumbentSearch ts budget room) budget room (length work₀) periods₀ periods work best-cost count rounds
 
 abbrev μ-loop : tie.MeasureT-loop
-μ-loop tasks budget keeps periods₀ work₀ n room count₀ rounds₀ periods work count rounds = budget - rounds
+μ-loop tasks budget keeps periods₀ work₀ n room best-cost₀ count₀ rounds₀ periods work best-cost count rounds = budget - rounds
 
 -- from the first node back to the start, from the loop's head to the first incumbent and to the start
 abbrev begun : tie.After-first Inv-loop μ-loop → tie.Start Inv-loop μ-loop
@@ -61,7 +63,7 @@ loop-holds c =
     let p = placed b in
     let s = begun (p .before) in
     searches (s .pre) (s .args .keeps) (s .args .budget) (p .place .kept .0) (first-is (p .before)) (p .place .ensures)
-    (b .begin .ensures) (b .begin .kept .1 .1 .0)
+    (b .begin .ensures .0) (b .begin .kept .1 .1 .0) (b .begin .ensures .1)
 
 -- the node of a round has as many periods as there are to write
 node-is : (d : tie.After-run-round Inv-loop μ-loop) → let n = length (start (head d) .args .periods .now) in
@@ -103,26 +105,39 @@ returns c =
     let d = answered m in
     let l = head d in
     let s = start l in
-    ends-called (s .pre .given) (s .args .keeps) (s .args .budget) (kept l .begin .ensures)
+    ends-called (s .pre .given) (s .args .keeps) (s .args .budget) (kept l .begin .ensures .0)
     (searching-answered (l .loop .inv) (d .before .before .loop-test .taken) (d .run-round .ensures) (s .pre .given .sized)
     (m .enum-told .given .1) (w .write-node .ensures) (c .answered .ensures))
 
-stop-cost-requires : tie.Need-stop-cost-requires Inv-loop μ-loop
-stop-cost-requires c κs =
-    let i = c .before .before .before in
-    let d = full (i .before .before) in
-    searching-weighed (head d .loop .inv) (i .improve .kept .1 .1 .0)
+-- what improving the incumbent asks
+improves : (d : tie.After-run-round Inv-loop μ-loop) → let a = start (head d) .args in let l = head d .loop in
+    let node = take (length (a .periods .now)) (d .run-round .result .node .periods) in
+    LowersNode (tasksIn (a .tasks .now)) node
+    × ((length (l .periods) ≡ length node)
+    × ((l .best-cost ≡ stopCost (tasksIn (a .tasks .now)) (a .keeps) (l .periods))
+    × (d .run-round .result .node .cost ≡ cost (weights (tasksIn (a .tasks .now))) node)))
+improves d =
+    let l = head d in (
+      lowers d,
+      (
+        room-for d,
+        (
+          l .loop .inv .costs,
+          searching-costs (l .loop .inv) (d .before .before .loop-test .taken) (d .run-round .ensures) (start l .pre .given .sized),
+        ),
+      ),
+    )
 
 returns-2 : tie.Need-returns-2 Inv-loop μ-loop
 returns-2 c =
-    let i = c .before .before .before .before .before in
+    let i = c .before .before .before in
     let m = i .before .before in
     let d = full m in
     let l = head d in
     let s = start l in
-    ends-called (s .pre .given) (s .args .keeps) (s .args .budget) (kept l .begin .ensures)
+    ends-called (s .pre .given) (s .args .keeps) (s .args .budget) (kept l .begin .ensures .0)
     (searching-full (l .loop .inv) (d .before .before .loop-test .taken) (d .run-round .ensures) (s .pre .given .sized)
-    (i .improve .ensures) (m .enum-told2 .given .1) (c .before .stop-cost .ensures) (c .stopped .ensures))
+    (i .improve .ensures .0) (i .improve .ensures .1) (m .enum-told2 .given .1) (c .stopped .ensures))
 
 loop-again : tie.Need-loop-again Inv-loop μ-loop
 loop-again c =
@@ -131,50 +146,30 @@ loop-again c =
     let d = listed m in
     let l = head d in
     searching-on (l .loop .inv) (d .before .before .loop-test .taken) (d .run-round .ensures) (start l .pre .given .sized)
-    (i .improve2 .ensures) (i .improve2 .kept .1 .1 .0) (m .step .given .1) (d .run-round .kept .1 .0)
+    (i .improve2 .ensures .0) (i .improve2 .ensures .1) (i .improve2 .kept .1 .1 .0) (m .step .given .1) (d .run-round .kept .1 .0)
 
 returns-3 : tie.Need-returns-3 Inv-loop μ-loop
 returns-3 c =
-    let b = c .before in
-    let x = c .before .before .before .before .before in
+    let x = c .before .before .before in
     let l = x .before in
     let s = start l in
-    ends-called (s .pre .given) (s .args .keeps) (s .args .budget) (kept l .begin .ensures)
-    (searching-spent (l .loop .inv) (x .loop-test .left) (b .bound-of .ensures) (b .before .before .stop-cost2 .ensures)
-    (c .stopped2 .ensures))
+    ends-called (s .pre .given) (s .args .keeps) (s .args .budget) (kept l .begin .ensures .0)
+    (searching-spent (l .loop .inv) (x .loop-test .left) (c .before .bound-of .ensures) (c .stopped2 .ensures))
 
 pub search-spec : {M : Type 1} → statement M
 search-spec =
     tie.close
     (tie.spec Inv-loop μ-loop (λ c. search needs) (λ c κs. search needs) (λ c. search needs)
     (λ c. simp length-take (search needs)) (λ c κs. simp length-take (search needs))
-    (λ c κs. let p = c .before .before .before .before .before .before .before .before .before .before .pre .given in (p .few, p .sized))
-    loop-holds
-    (λ c κs. ready (c .before .before .loop .inv .looping))
-    (λ c. search needs)
-    (λ c. node-fits (c .before .before .before))
-    (λ c. node-is (c .before .before .before .before))
-    (λ c. search needs)
-    (λ c κs. sym (room-for (answered (c .before))))
+    (λ c κs. begin-asks (c .before .before .before .before .before .before .before .before .before .before .pre .given)) loop-holds
+    (λ c κs. ready (c .before .before .loop .inv .looping)) (λ c. search needs) (λ c. node-fits (c .before .before .before))
+    (λ c. node-is (c .before .before .before .before)) (λ c. search needs) (λ c κs. sym (room-for (answered (c .before))))
     (λ c κs. search needs)
     (λ c. let w = c .before .before .before in w .write-node .kept .0 ∙ periods-length (head (answered (w .before .before))))
-    (λ c. round-length (answered (c .before .before .before .before .before)))
-    returns
-    (λ c. search needs)
-    (λ c κs. let d = full (c .before) in (lowers d, room-for d))
-    stop-cost-requires
-    (λ c κs. search needs)
-    (λ c. let i = c .before .before .before .before .before in
-    i .improve .kept .1 .1 .0 ∙ periods-length (head (full (i .before .before))))
-    (λ c. round-length (full (c .before .before .before .before .before .before .before)))
-    returns-2
-    (λ c. search needs)
-    (λ c κs. let d = listed (c .before .before) in (lowers d, room-for d))
-    (λ c. search needs)
-    loop-again
-    (λ c κs. searching-weighed (c .before .before .loop .inv) refl)
-    (λ c κs. ready (c .before .before .before .before .loop .inv .looping) .holds)
-    (λ c κs. search needs)
-    (λ c. periods-length (c .before .before .before .before .before .before))
-    (λ c. work-length (c .before .before .before .before .before .before))
-    returns-3)
+    (λ c. round-length (answered (c .before .before .before .before .before))) returns (λ c. search needs)
+    (λ c κs. improves (full (c .before))) (λ c κs. search needs)
+    (λ c. let i = c .before .before .before in i .improve .kept .1 .1 .0 ∙ periods-length (head (full (i .before .before))))
+    (λ c. round-length (full (c .before .before .before .before .before))) returns-2 (λ c. search needs)
+    (λ c κs. improves (listed (c .before .before))) (λ c. search needs) loop-again
+    (λ c κs. ready (c .before .before .loop .inv .looping) .holds) (λ c κs. search needs)
+    (λ c. periods-length (c .before .before .before .before)) (λ c. work-length (c .before .before .before .before)) returns-3)
