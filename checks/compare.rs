@@ -505,7 +505,7 @@ fn main() {
         let (n, percent) = (random.within(12, 16), random.within(60, 80));
         loaded_plan(random, n, percent, true)
     };
-    sound_plans(&mut comparison, random, 10, overfull, |_| vec![u64::MAX]);
+    sound_plans(&mut comparison, random, 14, overfull, |_| vec![u64::MAX]);
     let complete = coverage(&comparison);
     println!("{} files, {} calls, seed {seed}: all as the model says", comparison.files, comparison.calls);
     if !complete {
