@@ -8,16 +8,13 @@ use native.Mathlib.Numerals.{add-one}
 use native.Mathlib.Omega.{arith}
 use lib.ListN.{length, take, length-map}
 use Rattle.plan.specs.declared.record.Task.{Task}
-use Rattle.plan.specs.Faults.{none, fault}
-use Rattle.plan.specs.Tasks.{maxTasks, AllValid, periodMins, weights}
+use Rattle.plan.specs.Tasks.{maxTasks, AllValid, periodMins}
 use Rattle.response.specs.Analysis.{schedulable}
 use Rattle.response.proofs.Bounds.{true-within}
-use Rattle.optimizer.specs.declared.answer.Answer.{Answer}
-use Rattle.optimizer.specs.declared.children.Step.the-variants.{Answered, Listed, Full}
+use Rattle.optimizer.specs.declared.children.Step.the-variants.{Listed}
 use Rattle.optimizer.specs.declared.round.Round.{Round}
 use Rattle.optimizer.specs.Rule.{Rule, End, least, searchFrom}
 use Rattle.optimizer.specs.Search.{start}
-use Rattle.optimizer.specs.Promises.{roomOf, searched}
 use Rattle.optimizer.specs.Inner.{nodes, put, LowersNode, Ready, Rounds, Concludes}
 use Rattle.optimizer.proofs.Space.{length-nodes, first-node}
 use Rattle.optimizer.proofs.Optimal.{Lawful}

@@ -1,9 +1,9 @@
 -- The last period of a task at which deadlines are missed, as the code finds it: what holds in each loop, and one law for each turn.
 use mathlib.Core.Path.{_≡_, refl, sym, ap, _∙_}
-use mathlib.Core.Bool.{Bool, true, false}
+use mathlib.Core.Bool.{true, false}
 use mathlib.Core.Logic.{inl, inr}
 use mathlib.Core.List.{List}
-use Prim.Native.Nat.{ℕ, zero, suc, _+_, _-_, _≤_, _<_, max}
+use Prim.Native.Nat.{ℕ, suc, _+_, _-_, _≤_, _<_, max}
 use native.Mathlib.Omega.{arith}
 use native.Mathlib.Nat.{le-trans}
 use lib.Dec.{leb}
@@ -13,7 +13,7 @@ use borrow.Author.Tests.{lt-leb, le-leb}
 use Rattle.plan.specs.declared.record.Task.{Task}
 use Rattle.plan.specs.Tasks.{maxTicks, taskAt}
 use Rattle.plan.proofs.Tests.{le-or-lt, eq-or-ne}
-use Rattle.response.specs.Analysis.{ceiling, ownDemand, deadlineAt, responseUpTo, responseTime, meets, schedulable}
+use Rattle.response.specs.Analysis.{ceiling, ownDemand, deadlineAt, responseUpTo, responseTime, meets}
 use Rattle.response.specs.Claims.{Covers}
 use Rattle.response.specs.Inner.{maxTime, Limits, Climbs}
 use Rattle.response.proofs.Ceiling.{ceiling-some, ceiling-upto}

@@ -1,6 +1,5 @@
 -- One period changed: what a task's response time at one value tells of the others.
 use mathlib.Core.Path.{_≡_, sym, ap, _∙_}
-use mathlib.Core.Bool.{true}
 use mathlib.Core.Logic.{inl, inr}
 use mathlib.Core.List.{List}
 use Prim.Native.Nat.{ℕ, _≤_, _<_}

@@ -59,9 +59,6 @@ weighed ts v few e = record {
   light = λ i. rw (weight-at ts i) (valid-at ts v i .weight-most);
 }
 
-pub weighed-count : (ts : List Task) {xs : List ℕ} → Weighed (weights ts) xs → length xs ≡ length ts
-weighed-count ts w = w .sized ∙ length-map ts (λ t. t .weight)
-
 -- the first i periods are the same
 pub record Tied (xs ys : List ℕ) (i : ℕ) : Type 0 where
   pub upto : i ≤ length xs
