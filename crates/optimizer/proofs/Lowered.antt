@@ -108,10 +108,7 @@ lowers-long {ts} {node} h = within-true ts node (h .bounded) .sized
 
 pub lowers-node : {ts : List Task} {node : List ℕ} → LowersNode ts node → Lowers ts node (periodMaxs ts)
 lowers-node {ts} {node} h = record {
-  valid = h .valid;
-  some = h .some;
-  few = h .few;
-  bounded = h .bounded;
+  given = h;
   within = true-within ts (periodMaxs ts) (maxs-within ts (ranged ts (h .valid)));
   above = within-true ts node (h .bounded) .high;
   met = h .top;
@@ -154,18 +151,18 @@ module _ {ts : List Task} {node : List ℕ} where
   lowering-start {x} h e ec =
       let w = within-true ts x (h .within) in
       record {
-        valid = h .valid;
-        few = h .few;
-        bounded = within-true ts node (h .bounded);
+        valid = h .given .valid;
+        few = h .given .few;
+        bounded = within-true ts node (h .given .bounded);
         meets = record { within = w; above = h .above; met = h .met };
         upto = omega arith;
         early = omega arith;
         begins = λ l. let z : 0 + ownDemand (taskAt ts 0) ≡ ownDemand (taskAt ts 0) = omega arith in
-            rw z (own-begins _ ts x 0 (own-some ts (h .valid) 0 l));
-        lowest = rw e (own-begins _ ts x (length x - 1) (own-some ts (h .valid) (length x - 1) (omega (arith, w .sized, h .some))));
+            rw z (own-begins _ ts x 0 (own-some ts (h .given .valid) 0 l));
+        lowest = rw e (own-begins _ ts x (length x - 1) (own-some ts (h .given .valid) (length x - 1) (omega (arith, w .sized, h .given .some))));
         leads = rw (sub-zero (length node));
         fixed = node;
-        long = within-true ts node (h .bounded) .sized;
+        long = within-true ts node (h .given .bounded) .sized;
         done = λ j l. let z : ⊥ = omega arith in absurd z;
         rest = λ j l. refl;
         costs = ec;

@@ -20,7 +20,7 @@ use Rattle.response.proofs.Ceiling.{ceiling-some, ceiling-upto}
 use Rattle.response.proofs.Limits.{limits-set}
 use Rattle.response.proofs.Exactness.{own-some, own-begins}
 use Rattle.response.proofs.Sustainable.{covers-above, covers-meets, schedulable-none}
-use Rattle.optimizer.specs.Misses.{Range, Moved, LastMiss, BeginsAt, Responds, Seeks, SeeksBelow, SeeksFrom}
+use Rattle.optimizer.specs.Misses.{Range, Moved, LastMiss, BeginsAt, Responds, Seeks, SeeksBetween, SeeksBelow, SeeksFrom}
 use Rattle.optimizer.proofs.OnePeriod.{alike, alike-le, alike-releases, response-early, deadline-other, own-meets}
 use Rattle.optimizer.proofs.OnePeriod.{released-covers, shorter-begins, response-begins}
 
@@ -225,21 +225,20 @@ pub record Between (ts : List Task) (u : List ℕ) (i k low most : ℕ) (u′ : 
   pub moved : Moved ts i u u′
 
 module _ {ts : List Task} {u : List ℕ} {i k low most : ℕ} where
-  pub between-start : i < k → k < length u → Range ts u i low most → {r : ℕ} → Responds ts u i k most low r
-      → Between ts u i k low most u low r (k - 1)
-  between-start a b q s = record {
-    range = q;
-    inside = b;
-    above = omega arith;
-    below = omega arith;
+  pub between-start : {r : ℕ} → SeeksBetween ts u i k most low r → Between ts u i k low most u low r (k - 1)
+  between-start q = record {
+    range = q .range;
+    inside = q .inside;
+    above = omega (arith, q .below);
+    below = omega (arith, q .below);
     is = record {
       above = omega arith;
-      upto = q .order;
+      upto = q .range .order;
       misses = λ l. let z : ⊥ = omega arith in absurd z;
-      past = λ j c d y e f. let z : ⊥ = omega arith in absurd z;
+      past = λ j c d y e f. let z : ⊥ = omega (arith, q .below) in absurd z;
     };
-    meet = λ m c d. s .meet m c (omega arith);
-    moved = moved-none (q .limits);
+    meet = λ m c d. q .responds .meet m c (omega (arith, q .below));
+    moved = moved-none (q .range .limits);
   }
 
   module _ {u′ : List ℕ} {last response j : ℕ} (g : Between ts u i k low most u′ last response j) where
@@ -317,10 +316,13 @@ module _ {ts : List Task} {u : List ℕ} {i low most start : ℕ} (q : SeeksBelo
 
     module _ {u′ : List ℕ} {v r : ℕ} (l : LastMiss ts u i lowest (suc lowest) low most v) (s : Responds ts u i lowest most v r)
         (m : Moved ts i u u′) where
-      pub below-between : (i < lowest)
-          × ((lowest < length u′) × (Range ts u′ i v most × Responds ts u′ i lowest most v r))
-      below-between =
-          (h, (omega (arith, moved-length (q .range .limits) m), (range-moved m (q .range) (l .upto), responds-moved m s)))
+      pub below-between : SeeksBetween ts u′ i lowest most v r
+      below-between = record {
+        range = range-moved m (q .range) (l .upto);
+        below = h;
+        inside = omega (arith, moved-length (q .range .limits) m);
+        responds = responds-moved m s;
+      }
 
       module _ {x : ℕ} (b : LastMiss ts u′ i (suc i) lowest v most x) where
         pub below-last : LastMiss ts u i (suc i) (length u) low most x

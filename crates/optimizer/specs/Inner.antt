@@ -176,6 +176,14 @@ pub record LowersNode (ts : List Task) (node : List ℕ) : Type 0 where
   pub bounded : withinBounds ts node ≡ true
   pub top : schedulable ts (periodMaxs ts) ≡ true
 
+-- an incumbent that is to be improved by the lowering of a node, with the costs of both
+pub record Improvable (ts : List Task) (keeps : Bool) (best : List ℕ) (total : ℕ) (node : List ℕ) (c : ℕ)
+    : Type 0 where
+  pub lowers : LowersNode ts node
+  pub sized : length best ≡ length node
+  pub best-costs : total ≡ stopCost ts keeps best
+  pub node-costs : c ≡ cost (weights ts) node
+
 -- x is the lowering and c its cost, up to a limit; past it both are past
 pub record LowersUpTo (ws lowered : List ℕ) (limit : ℕ) (x : List ℕ) (c : ℕ) : Type 0 where
   pub sized : length x ≡ length lowered
@@ -184,10 +192,7 @@ pub record LowersUpTo (ws lowered : List ℕ) (limit : ℕ) (x : List ℕ) (c : 
 
 -- schedulable periods within the bounds, at least the node's, to be lowered
 pub record Lowers (ts : List Task) (node x : List ℕ) : Type 0 where
-  pub valid : AllValid ts
-  pub some : 1 ≤ length ts
-  pub few : length ts ≤ maxTasks
-  pub bounded : withinBounds ts node ≡ true
+  pub given : LowersNode ts node
   pub within : withinBounds ts x ≡ true
   pub above : (k : ℕ) → getD node k 0 ≤ getD x k 0
   pub met : schedulable ts x ≡ true

@@ -47,6 +47,13 @@ pub record Seeks (ts : List Task) (u : List ℕ) (i k low most start : ℕ) : Ty
   pub inside : k < length u
   pub begins : BeginsAt ts u i most k start
 
+-- that of the tasks between task i and task k, whose own last miss is known, with a time of it
+pub record SeeksBetween (ts : List Task) (u : List ℕ) (i k most last response : ℕ) : Type 0 where
+  pub range : Range ts u i last most
+  pub below : i < k
+  pub inside : k < length u
+  pub responds : Responds ts u i k most last response
+
 -- that of all tasks below task i; the climbs of the lowest may begin at start
 pub record SeeksBelow (ts : List Task) (u : List ℕ) (i low most start : ℕ) : Type 0 where
   pub range : Range ts u i low most

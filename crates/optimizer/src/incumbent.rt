@@ -6,7 +6,7 @@ ghost use Rattle.plan.specs.Table.{tasksIn};
 ghost use Rattle.response.specs.Analysis.{schedulable};
 ghost use Rattle.response.specs.Assignments.{cost};
 ghost use Rattle.optimizer.specs.Search.{improved};
-ghost use Rattle.optimizer.specs.Inner.{Weighed, LowersNode, stopCost};
+ghost use Rattle.optimizer.specs.Inner.{Weighed, Improvable, stopCost};
 use super::lowering::lowering;
 use super::nodes::write_node;
 use super::order::cost_of;
@@ -42,9 +42,7 @@ pub fn improve(
     node: &[u32],
     node_cost: u64,
 ) -> u64
-    requires { ⌜ (let ts = tasksIn (now tasks) in
-        LowersNode ts (now node) × ((length (now best) ≡ length (now node))
-        × ((«best_cost» ≡ stopCost ts keeps (now best)) × («node_cost» ≡ cost (weights ts) (now node))))) ⌝ }
+    requires { ⌜ Improvable (tasksIn (now tasks)) keeps (now best) «best_cost» (now node) «node_cost» ⌝ }
     ensures is { λ _. ⌜ (let ts = tasksIn (now (tasks .entry)) in let p = now (best .entry) in
         now (best .exit) ≡ cond keeps (improved ts (schedulable ts) p (now (node .entry))) p) ⌝ }
     ensures costs { λ r. ⌜ r ≡ stopCost (tasksIn (now (tasks .entry))) keeps (now (best .exit)) ⌝ }

@@ -3,8 +3,8 @@ ghost use Prim.Native.Nat.{suc, _+_, _-_, _≤_, _<_, max};
 ghost use lib.ListN.{length};
 ghost use Rattle.plan.specs.Tasks.{maxTicks};
 ghost use Rattle.plan.specs.Table.{tasksIn};
-ghost use Rattle.optimizer.specs.Misses.{Range, Moved, LastMiss, BeginsAt, Responds};
-ghost use Rattle.optimizer.specs.Misses.{Seeks, SeeksBelow, SeeksFrom};
+ghost use Rattle.optimizer.specs.Misses.{Moved, LastMiss, BeginsAt, Responds};
+ghost use Rattle.optimizer.specs.Misses.{Seeks, SeeksBetween, SeeksBelow, SeeksFrom};
 use response::deadline_at;
 use response::own_demand;
 use response::response_from;
@@ -85,9 +85,9 @@ fn last_miss_between(
     most: u32,
     known: Miss,
 ) -> u32
-    requires { ⌜ (let ts = tasksIn (now tasks) in (i < k) × ((k < length (now u))
-        × (Range ts (now u) i (known .last) most × Responds ts (now u) i k most (known .last) (known .response)))) ⌝ }
-    ensures is { λ r. ⌜ LastMiss (tasksIn (now (tasks .entry))) (now (u .entry)) i (suc i) k (known .last) most r ⌝ }
+    requires { ⌜ SeeksBetween (tasksIn (now tasks)) (now u) i k most (known .last) (known .response) ⌝ }
+    ensures is { λ r. ⌜ (let ts = tasksIn (now (tasks .entry)) in
+        LastMiss ts (now (u .entry)) i (suc i) k (known .last) most r) ⌝ }
     ensures moved { λ _. ⌜ Moved (tasksIn (now (tasks .entry))) i (now (u .entry)) (now (u .exit)) ⌝ }
 {
     let mut last = known.last;

@@ -23,10 +23,10 @@ kept : (c : tie.After-lowering) → start c .args .keeps ≡ true
 kept c = c .before .if1 .taken
 
 costs : (c : tie.After-lowering) → let a = start c .args in a .best-cost ≡ cost (weights (tasksIn (a .tasks .now))) (a .best .now)
-costs c = let s = start c in stop-kept (tasksIn (s .args .tasks .now)) (s .args .keeps) (s .args .best .now) (kept c) (s .pre .1 .1 .0)
+costs c = let s = start c in stop-kept (tasksIn (s .args .tasks .now)) (s .args .keeps) (s .args .best .now) (kept c) (s .pre .best-costs)
 
 sized : (c : tie.After-lowering) → let n = length (start c .args .node .now) in length (take n (c .lowering .result .periods)) ≡ n
-sized c = let p = start c .pre .0 in c .lowering .ensures .sized ∙ lowering-long p ∙ sym (lowers-long p)
+sized c = let p = start c .pre .lowers in c .lowering .ensures .sized ∙ lowering-long p ∙ sym (lowers-long p)
 
 fits : (c : tie.After-lowering) → length (start c .args .node .now) ≤ length (c .lowering .result .periods)
 fits c = omega (arith, sized c, length-take (length (start c .args .node .now)) (c .lowering .result .periods))
@@ -55,9 +55,9 @@ returns-2 c =
 pub improve-spec : {M : Type 1} → statement M
 improve-spec =
     tie.close
-    (tie.spec (λ c κs. let p = c .before .before .before .before .pre in (p .0, p .1 .1 .1)) (λ c. fits (c .before))
+    (tie.spec (λ c κs. let p = c .before .before .before .before .pre in (p .lowers, p .node-costs)) (λ c. fits (c .before))
     (λ c. sym (sized (c .before .before)))
-    (λ c κs. let l = c .before .before .before in sized l ∙ sym (start l .pre .1 .0))
-    (λ c κs. let l = c .before .before .before .before .before .before in sized l ∙ sym (start l .pre .1 .0))
+    (λ c κs. let l = c .before .before .before in sized l ∙ sym (start l .pre .sized))
+    (λ c κs. let l = c .before .before .before .before .before .before in sized l ∙ sym (start l .pre .sized))
     (λ c. c .before .before .write-node .kept .0) returns (λ c. search needs) returns-2
-    (λ c. (rw (c .if1 .left), c .before .before .before .before .pre .1 .1 .0)))
+    (λ c. (rw (c .if1 .left), c .before .before .before .before .pre .best-costs)))

@@ -48,7 +48,7 @@ is : (c : tie.After-response-from Inv-loop μ-loop) → let l = tested c .before
 is c = rw (c .before .deadline-at .ensures) at (c .response-from .ensures)
 
 own-demand-requires : tie.Need-own-demand-requires Inv-loop μ-loop
-own-demand-requires c κs = let p = c .before .before .before .pre .0 in omega (arith, lowers-sized p, p .some)
+own-demand-requires c κs = let p = c .before .before .before .pre .0 in omega (arith, lowers-sized p, p .given .some)
 
 loop-holds : tie.Need-loop-holds Inv-loop μ-loop
 loop-holds c = let p = c .before .before .before .before .pre in (refl, lowering-start (p .0) (c .own-demand .ensures) (p .1))
@@ -146,7 +146,7 @@ pub lower-all-spec : {M : Type 1} → statement M
 lower-all-spec =
     tie.close
     (tie.spec Inv-loop μ-loop
-    (λ c. let p = c .before .before .before .pre .0 in omega (arith, lowers-sized p, p .some)) own-demand-requires loop-holds
+    (λ c. let p = c .before .before .before .pre .0 in omega (arith, lowers-sized p, p .given .some)) own-demand-requires loop-holds
     (λ c. let l = inside c in search needs) (λ c. let l = inside (c .before) in search needs) (λ c κs. of-tasks (c .before)) add-begin
     (λ c κs. of-tasks (c .before .before .before)) response-from-requires
     (λ c. let l = inside (tested (c .before)) in search needs)

@@ -15,7 +15,7 @@ abbrev μ-loop : tie.MeasureT-loop
 μ-loop tasks u₀ i k most last₀ response₀ j₀ u last response j = j
 
 loop-holds : tie.Need-loop-holds Inv-loop μ-loop
-loop-holds c = let p = c .before .before .pre in between-start (p .0) (p .1 .0) (p .1 .1 .0) (p .1 .1 .1)
+loop-holds c = between-start (c .before .before .pre)
 
 mul-deadline-at : tie.Need-mul-deadline-at Inv-loop μ-loop
 mul-deadline-at c = let l = between-inside (c .before .loop .inv) in search needs

@@ -3,12 +3,11 @@ use Prim.Native.Nat.{_-_, _≤_}
 use borrow.Author.Needs.{needs}
 use native.Mathlib.Omega.{arith}
 use lib.ListN.{length, take, length-take}
-use Rattle.plan.specs.Tasks.{periodMins, weights}
+use Rattle.plan.specs.Tasks.{periodMins}
 use Rattle.plan.specs.Table.{tasksIn}
-use Rattle.response.specs.Assignments.{cost}
 use Rattle.plan.proofs.Tables.{column-mins}
 use Rattle.optimizer.specs.Search.{incumbentSearch}
-use Rattle.optimizer.specs.Inner.{LowersNode, stopCost}
+use Rattle.optimizer.specs.Inner.{LowersNode, Improvable}
 use Rattle.optimizer.proofs.Looping.{ready}
 use Rattle.optimizer.proofs.Searching.{Searching, searches, searching-costs, searching-node, searching-lowers}
 use Rattle.optimizer.proofs.Searching.{searching-spent, searching-answered, searching-full, searching-on, ends-called}
@@ -111,22 +110,15 @@ returns c =
 
 -- what improving the incumbent asks
 improves : (d : tie.After-run-round Inv-loop μ-loop) → let a = start (head d) .args in let l = head d .loop in
-    let node = take (length (a .periods .now)) (d .run-round .result .node .periods) in
-    LowersNode (tasksIn (a .tasks .now)) node
-    × ((length (l .periods) ≡ length node)
-    × ((l .best-cost ≡ stopCost (tasksIn (a .tasks .now)) (a .keeps) (l .periods))
-    × (d .run-round .result .node .cost ≡ cost (weights (tasksIn (a .tasks .now))) node)))
-improves d =
-    let l = head d in (
-      lowers d,
-      (
-        room-for d,
-        (
-          l .loop .inv .costs,
-          searching-costs (l .loop .inv) (d .before .before .loop-test .taken) (d .run-round .ensures) (start l .pre .given .sized),
-        ),
-      ),
-    )
+    Improvable (tasksIn (a .tasks .now)) (a .keeps) (l .periods) (l .best-cost)
+    (take (length (a .periods .now)) (d .run-round .result .node .periods)) (d .run-round .result .node .cost)
+improves d = let l = head d in record {
+  lowers = lowers d;
+  sized = room-for d;
+  best-costs = l .loop .inv .costs;
+  node-costs =
+      searching-costs (l .loop .inv) (d .before .before .loop-test .taken) (d .run-round .ensures) (start l .pre .given .sized);
+}
 
 returns-2 : tie.Need-returns-2 Inv-loop μ-loop
 returns-2 c =
