@@ -7,20 +7,16 @@ use native.Mathlib.Omega.{arith}
 use lib.ListN.{length, getD, drop, length-append, drop-of-length-le}
 use lib.Seq.{sets, take-at, drop-at, drop-cons}
 use Rattle.plan.specs.Lists.{tabulate}
-use Rattle.plan.specs.Words.{bytesOf, word}
+use Rattle.plan.specs.Words.{bytesOf, wordsOf, word}
 use Rattle.plan.specs.Tasks.{maxTasks}
 use Rattle.plan.proofs.Lists.{sets-append, sets-whole}
-use Rattle.plan.proofs.Bytes.{bytes-length, bytes-value}
+use Rattle.plan.proofs.Bytes.{bytes-length, bytes-value, put-then, words-length}
 use Rattle.optimizer.specs.declared.answer.Answer.{Answer}
-use Rattle.desk.specs.Block.{Carried, blockSize, periodsAt, wordsOf, answerBytes, encoded, carried}
+use Rattle.desk.specs.Block.{Carried, blockSize, periodsAt, answerBytes, encoded, carried}
 use Rattle.desk.specs.Inner.{Writes}
 
 abbrev put : List ℕ → ℕ → ℕ → ℕ → List ℕ
 put b at width v = sets b at (bytesOf width v)
-
--- a number, then what stands behind it
-put-then : (b rest : List ℕ) (at width v : ℕ) → sets b at (bytesOf width v ++ rest) ≡ sets (put b at width v) (at + width) rest
-put-then b rest at width v = rw (sets-append b (bytesOf width v) rest at, bytes-length width v)
 
 pub answer-put : (b : List ℕ) (a : Answer) (n : ℕ)
     → put (put (put (put (put (put b 0 4 (a .fault .number)) 4 4 (a .fault .place)) 8 8 (a .cost)) 16 8 (a .rounds)) 24 8 (a .bound)) 32 4 n
@@ -41,11 +37,6 @@ module _ (b : List ℕ) (at : ℕ) (xs : List ℕ) (i : ℕ) where
   pub words-end : length xs ≤ i → sets b at (wordsOf (drop i xs)) ≡ b
   unfolding wordsOf
   words-end h = rw (drop-of-length-le xs h)
-
-words-length : (xs : List ℕ) → length (wordsOf xs) ≡ 4 * length xs
-unfolding wordsOf
-words-length [] = refl
-words-length (x ∷ xs) = simp (length-append, bytes-length) (omega (arith, words-length xs))
 
 -- such numbers, behind other bytes, read back
 abbrev pub Narrow : List ℕ → Type 0

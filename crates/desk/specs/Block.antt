@@ -1,11 +1,11 @@
 -- The answer block: what it carries, its bytes, and how they are read back.
 use mathlib.Core.Bool.{cond}
-use mathlib.Core.List.{List, [], _∷_, _++_}
+use mathlib.Core.List.{List, [], _++_}
 use Prim.Native.Nat.{ℕ, _+_, _*_}
 use lib.ListN.{length, drop, replicate}
 use Rattle.plan.specs.Lists.{tabulate}
 use Rattle.plan.specs.Faults.{fault, passed}
-use Rattle.plan.specs.Words.{bytesOf, word}
+use Rattle.plan.specs.Words.{bytesOf, wordsOf, word}
 use Rattle.plan.specs.Tasks.{maxTasks}
 use Rattle.optimizer.specs.declared.answer.Answer.{Answer}
 use Rattle.optimizer.specs.Promises.{Outcome}
@@ -22,11 +22,6 @@ blockSize = 100
 
 abbrev pub periodsAt : ℕ
 periodsAt = 36
-
--- numbers of 4 bytes each
-unfoldable pub wordsOf : List ℕ → List ℕ
-wordsOf [] = []
-wordsOf (x ∷ xs) = bytesOf 4 x ++ wordsOf xs
 
 -- "The block gets number and place (4 bytes each), cost, rounds and bound (8 each), n (4 ..), sixteen periods
 -- (4 each ..)"

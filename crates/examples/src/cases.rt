@@ -6,6 +6,7 @@ use super::list::all;
 use super::list::first;
 use super::list::first_mut;
 use super::planner::optimize;
+use super::print::bytes;
 use super::print::labelled;
 use super::print::numbers;
 use super::print::text;
@@ -50,6 +51,23 @@ fn try_read(file: &[u8]) {
     labelled(b"", &[r.tasks as u64]);
     names(file, r.tasks);
     text(b"\n");
+}
+
+fn show_form(file: &[u8], space: &mut [u8]) {
+    let r = plan::write_plan(file, space);
+    labelled(
+        b"|| size| bytes",
+        &[r.fault.number as u64, r.fault.place as u64, r.size as u64],
+    );
+    bytes(space);
+    text(b"\n");
+}
+
+// WRITE with the space of the call; its bytes are 7.
+fn try_write(call: &[u8], file: &[u8]) {
+    let mut space = [7u8; listing::INPUT_SIZE];
+    let end = io::count(number_u32(piece(call, b' ', 3)) as isize, &space);
+    show_form(file, &mut space[..end]);
 }
 
 fn show_times(file: &[u8], periods: &[u32], times: &mut [u32]) {
@@ -169,6 +187,7 @@ fn try_call(call: &[u8], input: &[u8; listing::INPUT_SIZE], size: usize)
     let file = part(input, 0, size);
     match byte(call, 1) {
         b'r' => try_read(file),
+        b'w' => try_write(call, file),
         b't' => try_times(call, file),
         b'c' => try_periods(call, file, false),
         b'b' => try_periods(call, file, true),

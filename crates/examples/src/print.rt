@@ -1,4 +1,5 @@
 use super::list::at;
+use super::words::byte;
 use super::words::piece;
 use libc::STDOUT_FILENO;
 
@@ -16,6 +17,18 @@ pub(crate) fn numbers(list: &[u32]) {
     let mut i: usize = 0;
     while i < list.len() {
         number(at(list, i) as u64);
+        i += 1;
+    }
+}
+
+// Bytes behind a space, each as two hexadecimal digits; nothing where there are none.
+pub(crate) fn bytes(list: &[u8]) {
+    if 0 < list.len() {
+        text(b" ");
+    }
+    let mut i: usize = 0;
+    while i < list.len() {
+        io::print_hex(STDOUT_FILENO, byte(list, i) as u64, 2);
         i += 1;
     }
 }

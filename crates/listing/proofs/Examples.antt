@@ -1,7 +1,8 @@
 -- The published listing of plan P, a refusal and a stop, computed from the bytes of the file.
 use mathlib.Core.Path.{_≡_, refl}
 use mathlib.Core.List.{[], _∷_}
-use Rattle.plan.specs.Words.{valueOf, bytesOf}
+use Rattle.plan.specs.Words.{valueOf, bytesOf, wordsOf}
+use Rattle.plan.specs.Canonical.{headerBytes, canonical}
 use Rattle.plan.specs.Faults.{firstFrom}
 use Rattle.plan.specs.Files.{fileFault, tasksOf}
 use Rattle.plan.proofs.Samples.{planP}
@@ -28,6 +29,6 @@ pub record Published : Type 0 where
       ∷ 114 ∷ 111 ∷ 117 ∷ 110 ∷ 100 ∷ 115 ∷ 32 ∷ 51 ∷ 10 ∷ []
 
 pub published : Published
-unfolding valueOf bytesOf firstFrom fileFault tasksOf demand climbFrom responseUpTo schedulable responseTimes leastOf searchFrom mua
+unfolding valueOf bytesOf wordsOf headerBytes canonical firstFrom fileFault tasksOf demand climbFrom responseUpTo schedulable responseTimes leastOf searchFrom mua
     children callFault infeasibleFault outcomeOf decimal listingFor
 published = record { answer = refl; refusal = refl; stop = refl }

@@ -7,3 +7,7 @@ pub use listing::INPUT_SIZE;
 pub use listing::LISTING_SIZE;
 pub use listing::list_input;
 pub use listing::list_plan;
+
+// for the other programs
+pub use listing::REFUSAL_SIZE;
+pub use listing::list_refusal;

@@ -1,16 +1,21 @@
 ghost use mathlib.Core.Path.{_≡_};
 ghost use Prim.Native.Nat.{_≤_};
 ghost use lib.ListN.{length, take};
+ghost use Rattle.listing.specs.Text.{line, refusalFields};
 ghost use Rattle.listing.specs.Inner.{Listable};
 ghost use Rattle.listing.specs.Promises.{Prints, ListsPlan, inputSize, timetableOf};
 use super::lines::put_refusal;
 use super::lines::put_rounds;
 use super::lines::put_tasks;
+use plan::Fault;
 use plan::Loaded;
 use plan::Plan;
 
 // A buffer for a listing: a first line of 54 bytes and 16 lines of 59 fit.
 pub const LISTING_SIZE: usize = 1024;
+
+// A buffer for a refusal's line.
+pub const REFUSAL_SIZE: usize = 50;
 
 // One byte more than a plan file may have, so that a longer one is refused for its length.
 pub const INPUT_SIZE: usize = 2_049;
@@ -76,4 +81,11 @@ pub fn list_input(input: &[u8; INPUT_SIZE], size: usize, out: &mut [u8; LISTING_
     let bytes: &[u8] = input;
     let mut work = [0u32; WORK];
     list_plan(&bytes[..size], BUDGET, &mut work, out)
+}
+
+// The line of a refusal by itself.
+pub fn list_refusal(fault: Fault, out: &mut [u8; REFUSAL_SIZE]) -> usize
+    ensures { λ r. ⌜ Prints (line (refusalFields fault)) (now (out .entry)) (now (out .exit)) r ⌝ }
+{
+    put_refusal(out, fault, b'\n')
 }

@@ -3,7 +3,8 @@ use mathlib.Core.Path.{_≡_, refl}
 use mathlib.Core.Bool.{true, false}
 use mathlib.Core.List.{List, [], _∷_}
 use Prim.Native.Nat.{ℕ, zero, suc}
-use Rattle.plan.specs.Words.{valueOf, bytesOf}
+use Rattle.plan.specs.Words.{valueOf, bytesOf, wordsOf}
+use Rattle.plan.specs.Canonical.{headerBytes, canonical}
 use Rattle.plan.specs.Faults.{none, fault, firstFrom}
 use Rattle.plan.specs.Tasks.{weights}
 use Rattle.plan.specs.Files.{fileFault, tasksOf}
@@ -72,12 +73,12 @@ pub record Kept : Type 0 where
   pub space2 : kept 9 2 34 4 2 (2 ∷ 4 ∷ [])
 
 pub incumbents : Kept
-unfolding valueOf bytesOf firstFrom fileFault tasksOf demand climbFrom responseUpTo responseTimes schedulable
+unfolding valueOf bytesOf wordsOf headerBytes canonical firstFrom fileFault tasksOf demand climbFrom responseUpTo responseTimes schedulable
     leastOf searchFrom mua children lowering callFault infeasibleFault bestOutcomeOf
 incumbents = record { budget0 = refl; budget1 = refl; budget3 = refl; space2 = refl }
 
 pub published : Published
-unfolding valueOf bytesOf firstFrom fileFault tasksOf demand climbFrom responseUpTo responseTimes schedulable
+unfolding valueOf bytesOf wordsOf headerBytes canonical firstFrom fileFault tasksOf demand climbFrom responseUpTo responseTimes schedulable
     leastOf searchFrom mua children callFault infeasibleFault outcomeOf
 published = record {
   answer = refl;

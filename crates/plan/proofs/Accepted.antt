@@ -9,17 +9,17 @@ use lib.ListN.{length, take, drop, length-drop}
 use lib.Seq.{take-take, length-take-le}
 use borrow.Author.Tests.{eqb-true, not-false}
 use Rattle.plan.specs.Lists.{tabulate}
-use Rattle.plan.specs.Faults.{faultIf, firstFault}
+use Rattle.plan.specs.Faults.{none, faultIf, firstFault}
 use Rattle.plan.specs.Tasks.{maxTasks, Valid, noTask, AllValid}
 use Rattle.plan.specs.Layout.{taskCount, nameWidth}
 use Rattle.plan.specs.Names.{nameField, nameOk}
 use Rattle.plan.specs.Files.{taskOf, rowFault, taskFault, layoutFault, gapFault, tasksFault, sameNameFault, fileFault}
-use Rattle.plan.specs.Files.{accepted, tasksOf, isNamed}
+use Rattle.plan.specs.Files.{repeatFault, accepted, tasksOf, isNamed}
 use Rattle.plan.specs.Inner.{areasOf, AreasOf, nameLength, NameAt}
 use Rattle.plan.specs.Promises.{Names}
 use Rattle.plan.proofs.Tests.{bool, le-between}
 use Rattle.plan.proofs.Lists.{tabulate-length, tabulate-at}
-use Rattle.plan.proofs.Rules.{or-first, or-second, if-passed, run-passed}
+use Rattle.plan.proofs.Rules.{or-next, or-first, or-second, if-passed, run-passed}
 use Rattle.plan.proofs.Fields.{name-is, name-length-le, name-some}
 use Rattle.plan.proofs.Header.{areas-of}
 use Rattle.plan.proofs.Valid.{row-valid}
@@ -32,17 +32,34 @@ module _ (s : List ℕ) (e : accepted s ≡ true) where
   unfolding fileFault
   accepted-areas = areas-of s (or-first (layoutFault s) _ no-fault)
 
-  tasks-pass : tasksFault s .number ≡ 0
+  after-layout : firstFault (gapFault s ∷ tasksFault s ∷ sameNameFault s ∷ []) .number ≡ 0
   unfolding fileFault
-  tasks-pass =
-      let later = or-second (layoutFault s) (firstFault (gapFault s ∷ tasksFault s ∷ sameNameFault s ∷ [])) no-fault in
-      or-first (tasksFault s) (firstFault (sameNameFault s ∷ []))
-      (or-second (gapFault s) (firstFault (tasksFault s ∷ sameNameFault s ∷ [])) later)
+  after-layout = or-second (layoutFault s) (firstFault (gapFault s ∷ tasksFault s ∷ sameNameFault s ∷ [])) no-fault
 
-  task-passes : (i : ℕ) → i < taskCount s → taskFault s i .number ≡ 0
+  after-gap : firstFault (tasksFault s ∷ sameNameFault s ∷ []) .number ≡ 0
+  after-gap = or-second (gapFault s) (firstFault (tasksFault s ∷ sameNameFault s ∷ [])) after-layout
+
+  tasks-pass : tasksFault s .number ≡ 0
+  tasks-pass = or-first (tasksFault s) (firstFault (sameNameFault s ∷ [])) after-gap
+
+  names-pass : sameNameFault s .number ≡ 0
+  names-pass = or-first (sameNameFault s) none (or-second (tasksFault s) (firstFault (sameNameFault s ∷ [])) after-gap)
+
+  pub accepted-none : fileFault s ≡ none
+  unfolding fileFault
+  accepted-none =
+      or-next (layoutFault s) _ (or-first (layoutFault s) _ no-fault)
+      ∙ or-next (gapFault s) _ (or-first (gapFault s) _ after-layout)
+      ∙ or-next (tasksFault s) _ tasks-pass
+      ∙ or-next (sameNameFault s) none names-pass
+
+  pub name-passes : (i : ℕ) → i < taskCount s → repeatFault s i .number ≡ 0
+  name-passes i h = run-passed (repeatFault s) (taskCount s) 0 names-pass i (omega arith) (omega arith)
+
+  pub task-passes : (i : ℕ) → i < taskCount s → taskFault s i .number ≡ 0
   task-passes i h = run-passed (taskFault s) (taskCount s) 0 tasks-pass i (omega arith) (omega arith)
 
-  accepted-task : (i : ℕ) → i < taskCount s → Valid (taskOf s i)
+  pub accepted-task : (i : ℕ) → i < taskCount s → Valid (taskOf s i)
   accepted-task i h =
       row-valid (taskOf s i) i
       (or-first (rowFault (taskOf s i) i) (faultIf (not (nameOk (nameField s i))) 10 (suc i)) (task-passes i h))

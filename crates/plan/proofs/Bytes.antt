@@ -1,12 +1,13 @@
 -- Numbers as bytes: words of two and four bytes, bytes that are written one by one, and what they read back as.
 use mathlib.Core.Path.{_≡_, refl, ap}
-use mathlib.Core.List.{List, _++_, append-assoc}
+use mathlib.Core.List.{List, [], _∷_, _++_}
 use Prim.Native.Nat.{ℕ, zero, suc, _+_, _-_, _*_, _/_, _%_, _^_, _≤_, _<_}
 use native.Mathlib.Nat.{pow-succ', mod-add-div}
 use native.Mathlib.Omega.{arith}
-use lib.ListN.{length, getD, take, drop, set}
-use lib.Seq.{sets, sets-eq, drop-cons, drop-at, take-at, length-take-le}
-use Rattle.plan.specs.Words.{valueOf, bytesOf, word}
+use lib.ListN.{length, getD, set, length-append}
+use lib.Seq.{sets, drop-cons}
+use Rattle.plan.specs.Words.{valueOf, bytesOf, wordsOf, word}
+use Rattle.plan.proofs.Lists.{sets-append}
 
 pub bytes-length : (width v : ℕ) → length (bytesOf width v) ≡ width
 unfolding bytesOf
@@ -53,13 +54,12 @@ pub bytes-end : (out : List ℕ) (at width i v : ℕ) → width ≤ i → sets o
 unfolding bytesOf
 bytes-end out at width i v h = let e : width - i ≡ 0 = omega arith in rw e
 
--- a number that was stored reads back
-pub word-put : (out : List ℕ) (at width v : ℕ) → at + width ≤ length out → v < 256 ^ width
-    → word (sets out at (bytesOf width v)) at width ≡ v
-word-put out at width v h l =
-    let b : List ℕ = bytesOf width v in
-    let n : length b ≡ width = bytes-length width v in
-    let r : List ℕ = drop (at + length b) out in
-    let k : at + length b ≤ length out = omega arith in
-    let f : length (take at out) ≡ at = length-take-le at out (omega arith) in
-    rw (sets-eq b out at k, append-assoc, drop-at (take at out) (b ++ r) at f, take-at b r width n) (bytes-value width v l)
+-- a number, then what stands behind it
+pub put-then : (b rest : List ℕ) (at width v : ℕ)
+    → sets b at (bytesOf width v ++ rest) ≡ sets (sets b at (bytesOf width v)) (at + width) rest
+put-then b rest at width v = rw (sets-append b (bytesOf width v) rest at, bytes-length width v)
+
+pub words-length : (xs : List ℕ) → length (wordsOf xs) ≡ 4 * length xs
+unfolding wordsOf
+words-length [] = refl
+words-length (x ∷ xs) = simp (length-append, bytes-length) (omega (arith, words-length xs))

@@ -2,13 +2,13 @@
 use mathlib.Core.Path.{_≡_, refl, sym, ap, _∙_}
 use mathlib.Core.Bool.{true, false, _&&_, or-true, false≢true}
 use mathlib.Core.Logic.{inl, inr}
-use mathlib.Core.List.{List, [], _∷_}
+use mathlib.Core.List.{List, [], _∷_, _++_}
 use Prim.Native.Nat.{ℕ, zero, suc, _+_, _-_, _≤_, _<_}
 use native.Mathlib.Omega.{arith}
 use lib.Dec.{eqb, leb}
-use lib.ListN.{length, getD, take, drop}
-use lib.Seq.{drop-cons, drop-drop, take-nil}
-use borrow.Author.Tests.{ne-eqb, le-leb, leb-true}
+use lib.ListN.{length, getD, take, drop, replicate, length-drop, take-append-drop}
+use lib.Seq.{drop-cons, drop-drop, take-nil, length-take-le}
+use borrow.Author.Tests.{ne-eqb, eqb-true, le-leb, leb-true}
 use Rattle.plan.specs.Lists.{same}
 use Rattle.plan.specs.Names.{isNameByte, allZero, nameThenZeros, nameOk, withoutZeros, nameField, namedEarlier}
 use Rattle.plan.specs.Inner.{nameLength}
@@ -97,6 +97,21 @@ pub name-some : (l : List ℕ) → nameOk l ≡ true → 1 ≤ nameLength l
 name-some l e =
     leb-true 1 (nameLength l) (sym (name-begins l) ∙ and-left (isNameByte (getD l 0 0)) (nameThenZeros l) e)
 
+-- and its field is that name with zero bytes behind it
+zeros : (l : List ℕ) → allZero l ≡ true → l ≡ replicate (length l) 0
+zeros [] e = refl
+zeros (b ∷ bs) e =
+    let z = eqb-true b 0 (and-left (eqb b 0) (allZero bs) e) in
+    rw z (ap (λ (l : List ℕ). 0 ∷ l) (zeros bs (and-right (eqb b 0) (allZero bs) e)))
+
+pub name-padded : (l : List ℕ) → nameOk l ≡ true → withoutZeros l ++ replicate (length l - length (withoutZeros l)) 0 ≡ l
+name-padded l e =
+    let k : ℕ = nameLength l in
+    let size : length (take k l) ≡ k = length-take-le k l (name-length-le l) in
+    let z : allZero (drop k l) ≡ true = and-right (leb 1 k) (allZero (drop k l)) (sym (name-ok-is l) ∙ e) in
+    let rest : drop k l ≡ replicate (length l - k) 0 = rw (length-drop k l) at (zeros (drop k l) z) in
+    rw (name-is l e, size, ← rest) (take-append-drop k l)
+
 -- task i has the name of an earlier one
 pub earlier-found : (s : List ℕ) (i j m : ℕ) → j < m → same (nameField s i) (nameField s j) ≡ true → namedEarlier s i m ≡ true
 earlier-found s i j zero h e = let z : ⊥ = omega arith in absurd z
@@ -104,3 +119,11 @@ earlier-found s i j (suc m) h e = elim (eq-or-ne j m) [
   | inl z ↦ rw (← z, e) (or-true (namedEarlier s i j))
   | inr z ↦ rw (earlier-found s i j m (omega arith) e)
 ]
+
+-- two files whose first n names are equal
+pub earlier-same :
+    (s s′ : List ℕ) (n : ℕ) → ((k : ℕ) → k < n → nameField s k ≡ nameField s′ k)
+    → (i j : ℕ) → i < n → j ≤ n → namedEarlier s i j ≡ namedEarlier s′ i j
+earlier-same s s′ n h i zero p q = refl
+earlier-same s s′ n h i (suc j) p q =
+    rw (h i p, h j (omega arith), earlier-same s s′ n h i j p (omega arith))

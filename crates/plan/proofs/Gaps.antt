@@ -22,7 +22,7 @@ area-holds start end at e =
     let to = ltb at end in
     (leb-true start at (and-left from to e), ltb-true at end (and-right from to e))
 
-area-spans : (start end k : ℕ) → start ≤ k → k < end → inArea start end k ≡ true
+pub area-spans : (start end k : ℕ) → start ≤ k → k < end → inArea start end k ≡ true
 area-spans start end k l m = and-both (le-leb start k l) (lt-ltb k end m)
 
 -- bytes up to an end that is inside the file, none of them in a gap

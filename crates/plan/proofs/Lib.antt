@@ -4,12 +4,15 @@ pub mod Lists  -- tabulated lists, and lists stored into others
 pub mod Fill  -- lists filled from the front
 pub mod Rules  -- the first broken rule
 pub mod Bytes  -- numbers as bytes
+mod Joined  -- parts of one length, joined and stored
 pub mod Tables  -- rows and the tasks in them
 pub mod Fields  -- name fields
 pub mod Header  -- the rules 1 to 6
 mod Gaps  -- bytes in no area
 pub mod Valid  -- valid tasks
 pub mod Accepted  -- accepted files
+mod Canonical  -- the canonical form of tasks and names
 mod Decoding  -- tasks decoded one by one
 pub mod Loading  -- the file's refusal, and loaded plans
+pub mod Writing  -- an accepted file and its canonical form
 pub mod Samples  -- the files of the examples

@@ -77,6 +77,13 @@ run-none f (suc left) i e =
     let others = firstFrom f left (suc i) in
     or-next (f i) others (or-first (f i) others e) ∙ run-none f left (suc i) (or-second (f i) others e)
 
+pub run-all : (f : ℕ → Fault) (left i : ℕ) → ((k : ℕ) → i ≤ k → k < i + left → f k .number ≡ 0) → firstFrom f left i ≡ none
+unfolding firstFrom
+run-all f zero i h = refl
+run-all f (suc left) i h =
+    or-next (f i) (firstFrom f left (suc i)) (h i (omega arith) (omega arith))
+    ∙ run-all f left (suc i) (λ k p q. h k (omega arith) (omega arith))
+
 -- a run with a fault: it is that of one of its rules
 pub run-some : (f : ℕ → Fault) (left i : ℕ) → (firstFrom f left i .number ≡ 0 → ⊥) → (k : ℕ) × ((k < i + left) × (firstFrom f left i ≡ f k))
 unfolding firstFrom

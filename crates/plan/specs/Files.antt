@@ -100,3 +100,7 @@ isNamed s task = accepted s && between 1 task (taskCount s)
 -- "the part of the caller's own bytes that holds the name, without its zeros"
 abbrev pub nameOf : List ℕ → ℕ → List ℕ
 nameOf s task = cond (isNamed s task) (withoutZeros (nameField s (task - 1))) []
+
+-- the names of a file, as NAME gives them, in the order of its tasks
+unfoldable pub namesOf : List ℕ → List (List ℕ)
+namesOf s = tabulate (λ i. nameOf s (suc i)) (length (tasksOf s)) 0

@@ -2,7 +2,7 @@
 use mathlib.Core.Path.{_≡_}
 use mathlib.Core.Bool.{Bool, true, false, cond}
 use mathlib.Core.List.{List, [], _∷_}
-use Prim.Native.Nat.{ℕ, suc, _≤_, _<_}
+use Prim.Native.Nat.{ℕ, suc, _+_, _*_, _≤_, _<_}
 use lib.ListN.{length, take, drop}
 use Rattle.plan.specs.declared.faults.Fault.{Fault}
 use Rattle.plan.specs.declared.record.Task.{Task}
@@ -95,3 +95,10 @@ pub record NameAt (s : List ℕ) (names i : ℕ) : Type 0 where
   pub accepts : accepted s ≡ true
   pub inside : i < taskCount s
   pub begins : names ≡ namesAt s
+
+-- an accepted file has so many names in the area that begins at names, and there is room for them from at on
+pub record HasNames (s : List ℕ) (names n at : ℕ) (out : List ℕ) : Type 0 where
+  pub accepts : accepted s ≡ true
+  pub begins : names ≡ namesAt s
+  pub count : n ≡ taskCount s
+  pub fits : at + nameWidth * n ≤ length out

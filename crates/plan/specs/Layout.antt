@@ -26,8 +26,11 @@ abbrev pub totalLength : List ℕ → ℕ
 totalLength s = word s 12 4
 
 -- "The rows area is 20 × n bytes"; "The names area is 16 × n bytes"
+abbrev pub rowSize : ℕ
+rowSize = 20
+
 abbrev pub rowWidth : List ℕ → ℕ
-rowWidth s = 20
+rowWidth s = rowSize
 
 abbrev pub nameWidth : ℕ
 nameWidth = 16

@@ -7,5 +7,6 @@ pub mod Table
 pub mod Layout
 pub mod Names
 pub mod Files
+pub mod Canonical
 pub mod Promises
 pub mod Inner

@@ -1,5 +1,5 @@
 -- "Little-endian.": numbers as bytes, and bytes as numbers.
-use mathlib.Core.List.{List, [], _∷_}
+use mathlib.Core.List.{List, [], _∷_, _++_}
 use Prim.Native.Nat.{ℕ, zero, suc, _+_, _*_, _/_, _%_}
 use lib.ListN.{take, drop}
 
@@ -12,6 +12,11 @@ valueOf (b ∷ bs) = b + 256 * valueOf bs
 unfoldable pub bytesOf : ℕ → ℕ → List ℕ
 bytesOf zero v = []
 bytesOf (suc width) v = v % 256 ∷ bytesOf width (v / 256)
+
+-- numbers of 4 bytes each
+unfoldable pub wordsOf : List ℕ → List ℕ
+wordsOf [] = []
+wordsOf (x ∷ xs) = bytesOf 4 x ++ wordsOf xs
 
 -- the number in so many bytes from an offset on
 abbrev pub word : List ℕ → ℕ → ℕ → ℕ

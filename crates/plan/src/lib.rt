@@ -7,12 +7,15 @@ mod rows; // rows.rt: the row decoder
 mod layout; // layout.rt: header, areas and gaps
 mod names; // names.rt: name fields
 mod reader; // reader.rt: READ, NAME and the loading of a plan
+mod writer; // writer.rt: WRITE, the canonical form
 
-// READ and NAME
+// READ, NAME and WRITE
 pub use faults::Fault;
 pub use reader::Read;
 pub use reader::read_plan;
 pub use reader::task_name;
+pub use writer::Written;
+pub use writer::write_plan;
 
 // for the layers above
 pub use reader::Loaded;

@@ -29,6 +29,9 @@ impl Plan {
 
     pub const MAX_FILE: usize = 2_048;
 
+    // The longest canonical form: sixteen tasks.
+    pub const MAX_FORM: usize = 592;
+
     // The fields of a row, how many, and the numbers of a table.
     pub const WCET: usize = 0;
 

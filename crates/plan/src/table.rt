@@ -68,6 +68,20 @@ pub fn weight(tasks: &[u32], i: usize) -> u32
     field(tasks, i, Plan::WEIGHT)
 }
 
+// Task i.
+pub fn task_at(tasks: &[u32], i: usize) -> Task
+    requires { ⌜ i < length (tasksIn (now tasks)) ⌝ }
+    ensures { λ r. ⌜ r ≡ taskAt (tasksIn (now (tasks .entry))) i ⌝ }
+{
+    Task {
+        wcet: wcet(tasks, i),
+        period_min: period_min(tasks, i),
+        period_max: period_max(tasks, i),
+        deadline_cap: deadline_cap(tasks, i),
+        weight: weight(tasks, i),
+    }
+}
+
 // One field of each task, for loops that read it again and again.
 pub fn column(tasks: &[u32], field: usize) -> [u32; Plan::MAX_TASKS]
     requires { ⌜ (length (tasksIn (now tasks)) ≤ maxTasks) × (field < rowFields) ⌝ }

@@ -1,7 +1,8 @@
 -- The published examples of TIMES, computed from the bytes of their files.
 use mathlib.Core.Path.{_≡_, refl}
 use mathlib.Core.List.{[], _∷_}
-use Rattle.plan.specs.Words.{valueOf, bytesOf}
+use Rattle.plan.specs.Words.{valueOf, bytesOf, wordsOf}
+use Rattle.plan.specs.Canonical.{headerBytes, canonical}
 use Rattle.plan.specs.Faults.{firstFrom}
 use Rattle.plan.specs.Files.{fileFault, tasksOf}
 use Rattle.plan.proofs.Samples.{planP, planS}
@@ -17,5 +18,5 @@ pub record Published : Type 0 where
   pub s839 : timesOf planS (105 ∷ 140 ∷ 210 ∷ 280 ∷ 420 ∷ 839 ∷ []) ≡ 20 ∷ 50 ∷ 90 ∷ 190 ∷ 410 ∷ 0 ∷ []
 
 pub published : Published
-unfolding valueOf bytesOf firstFrom fileFault tasksOf responseTimes responseUpTo climbFrom demand
+unfolding valueOf bytesOf wordsOf headerBytes canonical firstFrom fileFault tasksOf responseTimes responseUpTo climbFrom demand
 published = record { p24 = refl; p23 = refl; p33 = refl; p18 = refl; s840 = refl; s839 = refl }

@@ -4,7 +4,7 @@ use mathlib.Core.Path.{_≡_, refl, sym, _∙_}
 use Prim.Native.Nat.{_+_, _-_, _*_, _≤_}
 use lib.ListN.{length, drop}
 use lib.Seq.{sets}
-use Rattle.desk.specs.Block.{wordsOf}
+use Rattle.plan.specs.Words.{wordsOf}
 use Rattle.desk.proofs.Bytes.{word-next, words-end}
 use Rattle.desk.proofs.block.put_words.Statement.{statement}
 use Rattle.desk.proofs.block.put_words.Tie as tie
