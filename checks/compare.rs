@@ -4,7 +4,7 @@
 //! Small plans are also solved by trying every assignment. One seed always
 //! gives the same files. Exit status 0 when all agree and every number came.
 
-// The check of the listing uses the rest.
+// The other checks use the rest.
 #[allow(dead_code)]
 mod model;
 mod plans;

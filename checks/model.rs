@@ -1,15 +1,15 @@
-//! docs/FORMAT.md in plain Rust: the file rules, the exact test of Lehoczky, Sha
-//! and Ding, the search round by round with its incumbent, the desk's block and
-//! the listing. It goes the plainest way everywhere and is 64 bits wide
-//! throughout; nothing here is shared with what it checks.
+//! docs/FORMAT.md in plain Rust: the file rules, the canonical form, the exact test
+//! of Lehoczky, Sha and Ding, the search round by round with its incumbent, the
+//! desk's block and the listing. It goes the plainest way everywhere and is 64 bits
+//! wide throughout; nothing here is shared with what it checks.
 
 pub const WORK_SPACE: u64 = 16_000;
 const LISTING_BUDGET: u64 = 100_000;
-const LISTING_READS: usize = 2_049;
+const PROGRAM_READS: usize = 2_049;
 pub const TICK_MAX: u64 = 1_000_000;
 pub const WEIGHT_MAX: u64 = 1_000;
 
-#[derive(Clone, Debug)]
+#[derive(Clone, Debug, PartialEq)]
 pub struct Task {
     pub wcet: u64,
     pub period_min: u64,
@@ -129,6 +129,34 @@ fn is_name(name: &[u8; 16]) -> bool {
     length >= 1
         && name[..length].iter().all(|byte| byte.is_ascii_alphanumeric() || *byte == b'-')
         && name[length..].iter().all(|&byte| byte == 0)
+}
+
+fn letters(name: &[u8; 16]) -> &[u8] {
+    &name[..name_length(name)]
+}
+
+/// WRITE: the canonical form, in which rows and names follow the header in this order
+/// without a gap.
+pub fn form(tasks: &[Task]) -> Vec<u8> {
+    let n = tasks.len() as u64;
+    let mut form = Vec::new();
+    let mut append = |value: u64, width: usize| form.extend((0..width).map(|k| (value >> (8 * k)) as u8));
+    append(1, 2);
+    append(n, 2);
+    append(16, 4);
+    append(16 + 20 * n, 4);
+    append(16 + 36 * n, 4);
+    for task in tasks {
+        for field in [task.wcet, task.period_min, task.period_max, task.deadline_cap, task.weight] {
+            append(field, 4);
+        }
+    }
+    for task in tasks {
+        let name = letters(&task.name);
+        form.extend(name);
+        form.extend(vec![0; 16 - name.len()]);
+    }
+    form
 }
 
 fn deadline(task: &Task, period: u64) -> u64 {
@@ -315,26 +343,40 @@ pub fn block(outcome: &Outcome) -> [u8; 100] {
     block
 }
 
+/// What a program takes of its standard input.
+fn taken(input: &[u8]) -> &[u8] {
+    &input[..input.len().min(PROGRAM_READS)]
+}
+
+pub fn refusal_line((number, place): Refusal) -> String {
+    format!("refused {number} {place}\n")
+}
+
+/// What program `planform` writes for these bytes on its standard input: a form to
+/// standard output, or else the refusal's line to standard error.
+pub fn planform(input: &[u8]) -> Result<Vec<u8>, Refusal> {
+    read(taken(input)).map(|tasks| form(&tasks))
+}
+
 /// What program `timetable` prints for these bytes on its standard input.
 pub fn listing(input: &[u8]) -> String {
-    let tasks = match read(&input[..input.len().min(LISTING_READS)]) {
+    let tasks = match read(taken(input)) {
         Ok(tasks) => tasks,
-        Err((number, place)) => return format!("refused {number} {place}\n"),
+        Err(refusal) => return refusal_line(refusal),
     };
     let outcome = search(&tasks, LISTING_BUDGET, WORK_SPACE).cheapest;
     let Outcome { number, place, cost, rounds, bound, periods, .. } = outcome;
     match number {
         0 => format!("cost {cost} rounds {rounds}\n") + &lines(&tasks, &periods),
         33 | 34 => format!("refused {number} {place} bound {bound} rounds {rounds}\n"),
-        _ => format!("refused {number} {place}\n"),
+        _ => refusal_line((number, place)),
     }
 }
 
 /// One line a task, in order: name, period, response time.
 fn lines(tasks: &[Task], periods: &[u64]) -> String {
     let line = |i: usize| {
-        let letters = &tasks[i].name[..name_length(&tasks[i].name)];
-        let name = std::str::from_utf8(letters).expect("a name that was read");
+        let name = std::str::from_utf8(letters(&tasks[i].name)).expect("a name that was read");
         let time = response_time(tasks, periods, i).expect("an answer's tasks are on time");
         format!("{name} {} {time}\n", periods[i])
     };

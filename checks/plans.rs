@@ -38,7 +38,7 @@ impl Random {
 
 // Plan files.
 
-#[derive(Clone)]
+#[derive(Clone, PartialEq)]
 pub struct Layout {
     pub rows: usize,
     pub names: usize,
@@ -73,7 +73,7 @@ pub fn tight(n: usize) -> Layout {
 
 /// Either order of the areas; without gaps, with small ones, or filling the
 /// longest file there is.
-fn layout(random: &mut Random, n: usize) -> Layout {
+pub fn layout(random: &mut Random, n: usize) -> Layout {
     let names_first = random.chance(2);
     let (first, second) = if names_first { (16 * n, 20 * n) } else { (20 * n, 16 * n) };
     let mut spare = match random.index(8) {
@@ -104,7 +104,7 @@ fn name(random: &mut Random) -> [u8; 16] {
 }
 
 /// Names that differ, some only in their last letter or by one letter more.
-fn name_all(random: &mut Random, tasks: &mut [Task]) {
+pub fn name_all(random: &mut Random, tasks: &mut [Task]) {
     for i in 0..tasks.len() {
         loop {
             let mut candidate = name(random);
