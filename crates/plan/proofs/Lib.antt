@@ -14,5 +14,6 @@ pub mod Accepted  -- accepted files
 mod Canonical  -- the canonical form of tasks and names
 mod Decoding  -- tasks decoded one by one
 pub mod Loading  -- the file's refusal, and loaded plans
-pub mod Writing  -- an accepted file and its canonical form
+mod OneForm  -- an accepted file and its canonical form
+pub mod Writing  -- WRITE
 pub mod Samples  -- the files of the examples

@@ -22,20 +22,21 @@ nameBytes name = name ++ replicate (nameWidth - length name) 0
 unfoldable pub headerBytes : ℕ → ℕ → ℕ → List ℕ
 headerBytes n names total = bytesOf 2 1 ++ (bytesOf 2 n ++ wordsOf (headerWidth ∷ names ∷ total ∷ []))
 
--- the areas of such tasks and names
+-- the two areas
 abbrev pub rowsBytes : List Task → List ℕ
 rowsBytes ts = joined (map rowBytes ts)
 
 abbrev pub namesBytes : List (List ℕ) → List ℕ
 namesBytes ns = joined (map nameBytes ns)
 
--- where they end, behind the header
+-- where each ends: the rows stand behind the header, the names behind the rows
 abbrev pub rowsTo : List Task → ℕ
 rowsTo ts = headerWidth + length (rowsBytes ts)
 
 abbrev pub namesTo : List Task → List (List ℕ) → ℕ
 namesTo ts ns = rowsTo ts + length (namesBytes ns)
 
+-- the form of tasks and names, whatever file they come from
 unfoldable pub canonical : List Task → List (List ℕ) → List ℕ
 canonical ts ns = headerBytes (length ts) (rowsTo ts) (namesTo ts ns) ++ (rowsBytes ts ++ namesBytes ns)
 

@@ -6,7 +6,7 @@ use Rattle.plan.specs.Files.{namesOf}
 use Rattle.plan.specs.Canonical.{nameBytes, namesBytes}
 use Rattle.plan.proofs.Joined.{Stored, stored-none, stored-more, stored-all}
 use Rattle.plan.proofs.Canonical.{name-long}
-use Rattle.plan.proofs.Writing.{all-names, name-fits, names-next}
+use Rattle.plan.proofs.OneForm.{all-names, name-fits, names-next}
 use Rattle.plan.proofs.writer.put_names.Statement.{statement}
 use Rattle.plan.proofs.writer.put_names.Tie as tie
 
