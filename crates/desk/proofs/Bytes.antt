@@ -1,11 +1,10 @@
 -- The block's bytes: stored field by field and number by number, and what they read back as.
 use mathlib.Core.Path.{_≡_, refl, sym, ap, _∙_}
 use mathlib.Core.List.{List, [], _∷_, _++_, append-assoc}
-use Prim.Native.Nat.{ℕ, suc, _+_, _*_, _^_, _≤_, _<_}
-use native.Mathlib.Numerals.{add-one}
+use Prim.Native.Nat.{ℕ, suc, _+_, _*_, _^_, _<_}
 use native.Mathlib.Omega.{arith}
-use lib.ListN.{length, getD, drop, length-append, drop-of-length-le}
-use lib.Seq.{sets, take-at, drop-at, drop-cons}
+use lib.ListN.{length, getD, length-append}
+use lib.Seq.{sets, take-at, drop-at}
 use Rattle.plan.specs.Lists.{tabulate}
 use Rattle.plan.specs.Words.{bytesOf, wordsOf, word}
 use Rattle.plan.specs.Tasks.{maxTasks}
@@ -24,21 +23,7 @@ pub answer-put : (b : List ℕ) (a : Answer) (n : ℕ)
 unfolding answerBytes
 answer-put b a n = simp put-then
 
--- numbers of 4 bytes each that are put one by one: what is to be stored yet, from number i on
-module _ (b : List ℕ) (at : ℕ) (xs : List ℕ) (i : ℕ) where
-  pub word-next : i < length xs
-      → sets (put b (at + 4 * i) 4 (getD xs i 0)) (at + 4 * (i + 1)) (wordsOf (drop (i + 1) xs))
-      ≡ sets b (at + 4 * i) (wordsOf (drop i xs))
-  unfolding wordsOf
-  word-next h =
-      let e : at + 4 * (i + 1) ≡ at + 4 * i + 4 = omega arith in
-      rw (e, add-one i, drop-cons xs i 0 h, put-then)
-
-  pub words-end : length xs ≤ i → sets b at (wordsOf (drop i xs)) ≡ b
-  unfolding wordsOf
-  words-end h = rw (drop-of-length-le xs h)
-
--- such numbers, behind other bytes, read back
+-- numbers of 4 bytes each, behind other bytes, read back
 abbrev pub Narrow : List ℕ → Type 0
 Narrow xs = (k : ℕ) → getD xs k 0 < 256 ^ 4
 

@@ -1,13 +1,14 @@
 -- Numbers as bytes: words of two and four bytes, bytes that are written one by one, and what they read back as.
 use mathlib.Core.Path.{_≡_, refl, ap}
-use mathlib.Core.List.{List, [], _∷_, _++_}
+use mathlib.Core.List.{List, _++_}
 use Prim.Native.Nat.{ℕ, zero, suc, _+_, _-_, _*_, _/_, _%_, _^_, _≤_, _<_}
 use native.Mathlib.Nat.{pow-succ', mod-add-div}
 use native.Mathlib.Omega.{arith}
-use lib.ListN.{length, getD, set, length-append}
+use lib.ListN.{length, getD, drop, set}
 use lib.Seq.{sets, drop-cons}
 use Rattle.plan.specs.Words.{valueOf, bytesOf, wordsOf, word}
 use Rattle.plan.proofs.Lists.{sets-append}
+use Rattle.plan.proofs.Joined.{joined-length, joined-from}
 
 pub bytes-length : (width v : ℕ) → length (bytesOf width v) ≡ width
 unfolding bytesOf
@@ -59,7 +60,15 @@ pub put-then : (b rest : List ℕ) (at width v : ℕ)
     → sets b at (bytesOf width v ++ rest) ≡ sets (sets b at (bytesOf width v)) (at + width) rest
 put-then b rest at width v = rw (sets-append b (bytesOf width v) rest at, bytes-length width v)
 
-pub words-length : (xs : List ℕ) → length (wordsOf xs) ≡ 4 * length xs
-unfolding wordsOf
-words-length [] = refl
-words-length (x ∷ xs) = simp (length-append, bytes-length) (omega (arith, words-length xs))
+-- numbers of 4 bytes each: how many bytes, and those of number i on
+module _ (xs : List ℕ) where
+  word-long : (i : ℕ) → i < length xs → length (bytesOf 4 (getD xs i 0)) ≡ 4
+  word-long i h = bytes-length 4 (getD xs i 0)
+
+  pub words-length : length (wordsOf xs) ≡ 4 * length xs
+  unfolding wordsOf
+  words-length = joined-length (bytesOf 4) 0 4 xs word-long
+
+  pub words-from : (i : ℕ) → i < length xs → drop (4 * i) (wordsOf xs) ≡ bytesOf 4 (getD xs i 0) ++ drop (4 * (i + 1)) (wordsOf xs)
+  unfolding wordsOf
+  words-from = joined-from (bytesOf 4) 0 4 xs word-long

@@ -1,7 +1,8 @@
 -- "Little-endian.": numbers as bytes, and bytes as numbers.
-use mathlib.Core.List.{List, [], _∷_, _++_}
+use mathlib.Core.List.{List, [], _∷_, map}
 use Prim.Native.Nat.{ℕ, zero, suc, _+_, _*_, _/_, _%_}
 use lib.ListN.{take, drop}
+use Rattle.plan.specs.Lists.{joined}
 
 -- the number that bytes hold
 unfoldable pub valueOf : List ℕ → ℕ
@@ -15,8 +16,7 @@ bytesOf (suc width) v = v % 256 ∷ bytesOf width (v / 256)
 
 -- numbers of 4 bytes each
 unfoldable pub wordsOf : List ℕ → List ℕ
-wordsOf [] = []
-wordsOf (x ∷ xs) = bytesOf 4 x ++ wordsOf xs
+wordsOf xs = joined (map (bytesOf 4) xs)
 
 -- the number in so many bytes from an offset on
 abbrev pub word : List ℕ → ℕ → ℕ → ℕ
