@@ -63,7 +63,7 @@ fn show_form(file: &[u8], space: &mut [u8]) {
     text(b"\n");
 }
 
-// WRITE with the space of the call; its bytes are 7.
+// WRITE with the space of the call, as far as the array goes; its bytes are 7.
 fn try_write(call: &[u8], file: &[u8]) {
     let mut space = [7u8; listing::INPUT_SIZE];
     let end = io::count(number_u32(piece(call, b' ', 3)) as isize, &space);
