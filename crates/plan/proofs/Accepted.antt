@@ -24,6 +24,14 @@ use Rattle.plan.proofs.Fields.{name-is, name-length-le, name-some}
 use Rattle.plan.proofs.Header.{areas-of}
 use Rattle.plan.proofs.Valid.{row-valid}
 
+-- a file that passes all rules, and the rules of one that is accepted
+pub all-pass :
+    (s : List ℕ) → layoutFault s .number ≡ 0 → gapFault s .number ≡ 0 → tasksFault s .number ≡ 0 → sameNameFault s .number ≡ 0
+    → none ≡ fileFault s
+unfolding fileFault
+all-pass s l g t n =
+    sym (or-next (layoutFault s) _ l ∙ or-next (gapFault s) _ g ∙ or-next (tasksFault s) _ t ∙ or-next (sameNameFault s) none n)
+
 module _ (s : List ℕ) (e : accepted s ≡ true) where
   no-fault : fileFault s .number ≡ 0
   no-fault = eqb-true (fileFault s .number) 0 e
@@ -47,11 +55,7 @@ module _ (s : List ℕ) (e : accepted s ≡ true) where
 
   pub accepted-none : fileFault s ≡ none
   unfolding fileFault
-  accepted-none =
-      or-next (layoutFault s) _ (or-first (layoutFault s) _ no-fault)
-      ∙ or-next (gapFault s) _ (or-first (gapFault s) _ after-layout)
-      ∙ or-next (tasksFault s) _ tasks-pass
-      ∙ or-next (sameNameFault s) none names-pass
+  accepted-none = sym (all-pass s (or-first (layoutFault s) _ no-fault) (or-first (gapFault s) _ after-layout) tasks-pass names-pass)
 
   pub name-passes : (i : ℕ) → i < taskCount s → repeatFault s i .number ≡ 0
   name-passes i h = run-passed (repeatFault s) (taskCount s) 0 names-pass i (omega arith) (omega arith)

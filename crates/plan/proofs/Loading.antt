@@ -45,13 +45,6 @@ module _ (s : List ℕ) {f : Fault} (broken : f .number ≡ 0 → ⊥) where
       unfolding fileFault
       at-names t e = broken-first broken e _ ∙ sym (or-next (layoutFault s) _ l ∙ or-next (gapFault s) _ g ∙ or-next (tasksFault s) _ t)
 
-pub all-pass :
-    (s : List ℕ) → layoutFault s .number ≡ 0 → gapFault s .number ≡ 0 → tasksFault s .number ≡ 0 → sameNameFault s .number ≡ 0
-    → none ≡ fileFault s
-unfolding fileFault
-all-pass s l g t n =
-    sym (or-next (layoutFault s) _ l ∙ or-next (gapFault s) _ g ∙ or-next (tasksFault s) _ t ∙ or-next (sameNameFault s) none n)
-
 -- the file's own rules have the numbers up to 11
 layout-small : (s : List ℕ) → layoutFault s .number ≤ 11
 layout-small s =

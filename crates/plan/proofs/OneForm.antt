@@ -23,10 +23,9 @@ use Rattle.plan.proofs.Tests.{le-between}
 use Rattle.plan.proofs.Lists.{tabulate-length, tabulate-at, tabulate-same}
 use Rattle.plan.proofs.Rules.{run-all}
 use Rattle.plan.proofs.Fields.{name-padded, earlier-same}
-use Rattle.plan.proofs.Accepted.{accepted-areas, accepted-task, accepted-name, accepted-tasks, tasks-length, task-passes, name-passes}
+use Rattle.plan.proofs.Accepted.{all-pass, accepted-areas, accepted-task, accepted-name, accepted-tasks, tasks-length, task-passes, name-passes}
 use Rattle.plan.proofs.Canonical.{Narrow, Formable, form-length, form-count, form-rows, form-names, form-task, form-name}
 use Rattle.plan.proofs.Canonical.{names-length, names-from, form-laid-out, form-no-gap}
-use Rattle.plan.proofs.Loading.{all-pass}
 
 -- valid fields fit their width
 narrow : (t : Task) → Valid t → Narrow t

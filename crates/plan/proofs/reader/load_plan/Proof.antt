@@ -6,7 +6,8 @@ use Rattle.plan.specs.declared.layout.Layout.the-variants.{Broken}
 use Rattle.plan.specs.Files.{layoutFault, gapFault, tasksFault}
 use Rattle.plan.specs.Inner.{AreasOf, faultOfLayout}
 use Rattle.plan.proofs.Header.{located, unlocated}
-use Rattle.plan.proofs.Loading.{at-layout, at-gap, at-tasks, at-names, all-pass, loads-refused, loads-broken, loads-all}
+use Rattle.plan.proofs.Accepted.{all-pass}
+use Rattle.plan.proofs.Loading.{at-layout, at-gap, at-tasks, at-names, loads-refused, loads-broken, loads-all}
 use Rattle.plan.proofs.reader.load_plan.Statement.{statement}
 use Rattle.plan.proofs.reader.load_plan.Tie as tie
 
