@@ -9,13 +9,10 @@ use Rattle.plan.specs.Lists.{tabulate}
 use Rattle.plan.specs.Words.{bytesOf, wordsOf, word}
 use Rattle.plan.specs.Tasks.{maxTasks}
 use Rattle.plan.proofs.Lists.{sets-append, sets-whole}
-use Rattle.plan.proofs.Bytes.{bytes-length, bytes-value, put-then, words-length}
+use Rattle.plan.proofs.Bytes.{bytes-length, bytes-value, put, put-then, words-length}
 use Rattle.optimizer.specs.declared.answer.Answer.{Answer}
 use Rattle.desk.specs.Block.{Carried, blockSize, periodsAt, answerBytes, encoded, carried}
 use Rattle.desk.specs.Inner.{Writes}
-
-abbrev put : List ℕ → ℕ → ℕ → ℕ → List ℕ
-put b at width v = sets b at (bytesOf width v)
 
 pub answer-put : (b : List ℕ) (a : Answer) (n : ℕ)
     → put (put (put (put (put (put b 0 4 (a .fault .number)) 4 4 (a .fault .place)) 8 8 (a .cost)) 16 8 (a .rounds)) 24 8 (a .bound)) 32 4 n

@@ -55,9 +55,11 @@ pub bytes-end : (out : List ℕ) (at width i v : ℕ) → width ≤ i → sets o
 unfolding bytesOf
 bytes-end out at width i v h = let e : width - i ≡ 0 = omega arith in rw e
 
--- a number, then what stands behind it
-pub put-then : (b rest : List ℕ) (at width v : ℕ)
-    → sets b at (bytesOf width v ++ rest) ≡ sets (sets b at (bytesOf width v)) (at + width) rest
+-- a number that is stored, then what stands behind it
+abbrev pub put : List ℕ → ℕ → ℕ → ℕ → List ℕ
+put b at width v = sets b at (bytesOf width v)
+
+pub put-then : (b rest : List ℕ) (at width v : ℕ) → sets b at (bytesOf width v ++ rest) ≡ sets (put b at width v) (at + width) rest
 put-then b rest at width v = rw (sets-append b (bytesOf width v) rest at, bytes-length width v)
 
 -- numbers of 4 bytes each: how many bytes, and those of number i on

@@ -23,7 +23,7 @@ use Rattle.plan.specs.Canonical.{rowBytes, nameBytes, headerBytes, rowsB
 use Rattle.plan.proofs.Tests.{le-or-lt, le-between, and-false}
 use Rattle.plan.proofs.Lists.{sets-append, sets-whole}
 use Rattle.plan.proofs.Joined.{joined-length, joined-from}
-use Rattle.plan.proofs.Bytes.{bytes-value, words-length, put-then}
+use Rattle.plan.proofs.Bytes.{bytes-value, words-length, put, put-then}
 use Rattle.plan.proofs.Rules.{run-all}
 use Rattle.plan.proofs.Gaps.{area-spans}
 
@@ -86,9 +86,6 @@ unfolding headerBytes wordsOf bytesOf
 header-length n names total = refl
 
 -- written number by number
-abbrev put : List ℕ → ℕ → ℕ → ℕ → List ℕ
-put b at width v = sets b at (bytesOf width v)
-
 pub header-put : (b : List ℕ) (n names total : ℕ)
     → put (put (put (put (put b 0 2 1) 2 2 n) 4 4 headerWidth) 8 4 names) 12 4 total ≡ sets b 0 (headerBytes n names total)
 unfolding headerBytes wordsOf

@@ -1,4 +1,5 @@
--- The plan file (docs/FORMAT.md): limits and tasks, layout, names, refusals, and what the calls promise.
+-- The plan file (docs/FORMAT.md): limits and tasks, layout, names, refusals, the canonical form, and what the calls
+-- promise.
 pub mod Lists
 pub mod Faults
 pub mod Words

@@ -1,4 +1,4 @@
-// The plan file: tasks and their limits, the layout, names, and refusals 1 to 11 with their places.
+// The plan file: tasks and their limits, the layout, names, refusals 1 to 11 with their places, and the canonical form.
 mod faults; // faults.rt: a refusal's number and place
 mod words; // words.rt: little-endian numbers
 mod record; // record.rt: the plan record, its limits, one task

@@ -1,5 +1,5 @@
 // Program `planform`: a plan file from standard input, its canonical form to standard output; a refusal to standard
-// error. Two files hold the same plan exactly when what it writes of them is equal.
+// error. Two accepted files hold the same plan exactly when their forms are equal.
 ghost use mathlib.Core.Path.{_≡_};
 ghost use Prim.Native.Nat.{_≤_};
 ghost use lib.ListN.{length, take};
