@@ -1,30 +1,17 @@
 ghost use mathlib.Core.Path.{_≡_};
-ghost use Prim.Native.Nat.{_+_, _*_, _≤_};
 ghost use lib.ListN.{length};
 ghost use lib.Seq.{sets};
 ghost use Rattle.plan.specs.Tasks.{maxTasks};
-ghost use Rattle.plan.specs.Words.{wordsOf};
 ghost use Rattle.desk.specs.Block.{blockSize, answerBytes};
 ghost use Rattle.desk.specs.Inner.{Writes};
 use optimizer::Answer;
 use plan::put_word;
+use plan::put_words;
 use plan::wide;
 
 pub const BLOCK_SIZE: usize = 100;
 
 const PERIODS_AT: usize = 36;
-
-// Numbers of 4 bytes each from an offset on.
-fn put_words(block: &mut [u8], at: usize, numbers: &[u32])
-    requires { ⌜ at + 4 * length (now numbers) ≤ length (now block) ⌝ }
-    ensures { λ _. ⌜ now (block .exit) ≡ sets (now (block .entry)) at (wordsOf (now (numbers .entry))) ⌝ }
-{
-    let mut i: usize = 0;
-    while i < numbers.len() {
-        put_word(block, at + 4 * i, 4, wide(numbers[i]));
-        i += 1;
-    }
-}
 
 // The bytes before the periods: an answer and its count of tasks.
 fn put_answer(block: &mut [u8], answer: Answer, tasks: u32)

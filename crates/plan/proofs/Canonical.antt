@@ -1,31 +1,34 @@
 -- The canonical form of tasks and names: what its header says, where its rows and names are, and that it has no fault of
 -- layout.
 use mathlib.Core.Path.{_≡_, refl, sym, ap, _∙_}
-use mathlib.Core.Bool.{false}
+use mathlib.Core.Bool.{true, false}
 use mathlib.Core.Logic.{inl, inr}
 use mathlib.Core.List.{List, [], _∷_, _++_, append-assoc}
 use Prim.Native.Nat.{ℕ, zero, suc, _+_, _-_, _*_, _^_, _≤_, _<_}
 use native.Mathlib.Omega.{arith}
 use native.Mathlib.Numerals.{add-one}
-use lib.ListN.{length, getD, drop, replicate, length-append, length-replicate}
+use native.Mathlib.Nat.{mul-le-mul-left}
+use lib.Dec.{eqb}
+use lib.ListN.{length, getD, take, drop, replicate, length-append, length-replicate}
 use lib.Seq.{sets, drop-cons, drop-drop, take-at, drop-append-le, drop-append-add}
-use borrow.Author.Tests.{eq-eqb, le-ltb}
+use borrow.Author.Tests.{eq-eqb, ne-eqb, eqb-true, le-ltb}
 use Rattle.plan.specs.declared.record.Task.{Task}
 use Rattle.plan.specs.Faults.{none}
 use Rattle.plan.specs.Words.{bytesOf, wordsOf}
-use Rattle.plan.specs.Tasks.{minFile, maxFile, maxTasks, noTask, taskAt, rowAt}
+use Rattle.plan.specs.Tasks.{minFile, maxFile, maxTasks, noTask, taskAt, furtherField, rowAt}
 use Rattle.plan.specs.Table.{rowOf}
-use Rattle.plan.specs.Layout.{headerWidth, rowSize, nameWidth, version, taskCount, totalLength, inGap}
+use Rattle.plan.specs.Layout.{headerWidth, rowNumbers, rowSize, nameWidth, version, taskCount, totalLength, inGap}
 use Rattle.plan.specs.Layout.{rowsAt, namesAt}
 use Rattle.plan.specs.Names.{nameField}
 use Rattle.plan.specs.Files.{layoutFault, strayFault, gapFault, taskOf}
-use Rattle.plan.specs.Canonical.{rowBytes, nameBytes, headerBytes, rowsBytes, namesBytes, rowsTo, namesTo, canonical}
-use Rattle.plan.proofs.Tests.{le-or-lt, le-between, and-false}
+use Rattle.plan.specs.Canonical.{isPlain, versionFor, rowBytes, nameBytes, headerBytes, rowsBytes, namesBytes, rowsTo, namesTo, canonical}
+use Rattle.plan.proofs.Tests.{le-or-lt, eq-or-ne, le-between, and-left, and-right, and-false}
 use Rattle.plan.proofs.Lists.{sets-append, sets-whole}
 use Rattle.plan.proofs.Joined.{joined-length, joined-from}
 use Rattle.plan.proofs.Bytes.{bytes-value, words-length, put, put-then}
 use Rattle.plan.proofs.Rules.{run-all}
 use Rattle.plan.proofs.Gaps.{area-spans}
+use Rattle.plan.proofs.Versions.{row-range, row-front, version-range, all-plain}
 
 -- each field is below its width
 pub record Narrow (t : Task) : Type 0 where
@@ -34,32 +37,67 @@ pub record Narrow (t : Task) : Type 0 where
   pub period-max : t .«period_max» < 256 ^ 4
   pub deadline-cap : t .«deadline_cap» < 256 ^ 4
   pub weight : t .weight < 256 ^ 4
+  pub blocking : t .blocking < 256 ^ 4
+  pub jitter : t .jitter < 256 ^ 4
 
--- a row reads back
-row-back : (s : List ℕ) (at : ℕ) (t : Task) (rest : List ℕ) → drop at s ≡ rowBytes t ++ rest → Narrow t → rowAt s at ≡ t
-unfolding wordsOf bytesOf
-row-back s at t rest e n =
-    rw (
-      ← drop-drop 4 at s,
-      ← drop-drop 8 at s,
-      ← drop-drop 12 at s,
-      ← drop-drop 16 at s,
-      e,
-      bytes-value 4 (t .wcet) (n .wcet),
-      bytes-value 4 (t .«period_min») (n .period-min),
-      bytes-value 4 (t .«period_max») (n .period-max),
-      bytes-value 4 (t .«deadline_cap») (n .deadline-cap),
-      bytes-value 4 (t .weight) (n .weight),
-    )
+-- a row reads back, in version 1 that of a plain task
+module _ (s : List ℕ) (at : ℕ) (t : Task) (n : Narrow t) where
+  -- its first five fields, with any two behind them
+  abbrev first-five : ℕ → ℕ → Task
+  first-five b j = record {
+    wcet = t .wcet;
+    «period_min» = t .«period_min»;
+    «period_max» = t .«period_max»;
+    «deadline_cap» = t .«deadline_cap»;
+    weight = t .weight;
+    blocking = b;
+    jitter = j;
+  }
+
+  first-back : (rest : List ℕ) → drop at s ≡ rowBytes 1 t ++ rest → rowAt s at ≡ first-five (furtherField s (at + 20)) (furtherField s (at + 24))
+  unfolding wordsOf bytesOf
+  first-back rest e =
+      rw (
+        ← drop-drop 4 at s,
+        ← drop-drop 8 at s,
+        ← drop-drop 12 at s,
+        ← drop-drop 16 at s,
+        e,
+        bytes-value 4 (t .wcet) (n .wcet),
+        bytes-value 4 (t .«period_min») (n .period-min),
+        bytes-value 4 (t .«period_max») (n .period-max),
+        bytes-value 4 (t .«deadline_cap») (n .deadline-cap),
+        bytes-value 4 (t .weight) (n .weight),
+      )
+
+  whole-back : (rest : List ℕ) → drop at s ≡ rowBytes 1 t ++ rest
+      → furtherField s (at + 20) ≡ t .blocking → furtherField s (at + 24) ≡ t .jitter → rowAt s at ≡ t
+  whole-back rest e b j =
+      first-back rest e ∙ ap (λ x. first-five x (furtherField s (at + 24))) b ∙ ap (first-five (t .blocking)) j
+
+  wide-back : (rest : List ℕ) → (version s ≡ 1 → ⊥) → drop at s ≡ wordsOf (rowOf t) ++ rest → rowAt s at ≡ t
+  unfolding wordsOf bytesOf
+  wide-back rest h e =
+      whole-back (wordsOf (t .blocking ∷ t .jitter ∷ []) ++ rest) e
+      (rw (ne-eqb (version s) 1 h, ← drop-drop 20 at s, e) (bytes-value 4 (t .blocking) (n .blocking)))
+      (rw (ne-eqb (version s) 1 h, ← drop-drop 24 at s, e) (bytes-value 4 (t .jitter) (n .jitter)))
+
+  row-back : (rest : List ℕ) → drop at s ≡ rowBytes (version s) t ++ rest → (version s ≡ 1 → isPlain t ≡ true) → rowAt s at ≡ t
+  row-back rest e p = elim (eq-or-ne (version s) 1) [
+    | inl o ↦ let b = eqb-true (t .blocking) 0 (and-left (eqb (t .blocking) 0) (eqb (t .jitter) 0) (p o)) in
+        let j = eqb-true (t .jitter) 0 (and-right (eqb (t .blocking) 0) (eqb (t .jitter) 0) (p o)) in
+        whole-back rest (rw (eq-eqb (version s) 1 o) at e) (rw (eq-eqb (version s) 1 o, b)) (rw (eq-eqb (version s) 1 o, j))
+    | inr h ↦ wide-back rest h (rw (ne-eqb (version s) 1 h) at e)
+  ]
 
 -- the header's words, and what stands behind them
-module _ (n names total : ℕ) (rest : List ℕ) where
+module _ (v n names total : ℕ) (rest : List ℕ) where
   abbrev whole : List ℕ
-  whole = headerBytes n names total ++ rest
+  whole = headerBytes v n names total ++ rest
 
-  header-version : version whole ≡ 1
+  header-version : v < 256 ^ 2 → version whole ≡ v
   unfolding headerBytes wordsOf bytesOf
-  header-version = bytes-value 2 1 (omega arith)
+  header-version h = bytes-value 2 v h
 
   header-count : n < 256 ^ 2 → taskCount whole ≡ n
   unfolding headerBytes wordsOf bytesOf
@@ -81,26 +119,15 @@ module _ (n names total : ℕ) (rest : List ℕ) where
   unfolding headerBytes wordsOf bytesOf
   header-behind = refl
 
-pub header-length : (n names total : ℕ) → length (headerBytes n names total) ≡ headerWidth
+pub header-length : (v n names total : ℕ) → length (headerBytes v n names total) ≡ headerWidth
 unfolding headerBytes wordsOf bytesOf
-header-length n names total = refl
+header-length v n names total = refl
 
 -- written number by number
-pub header-put : (b : List ℕ) (n names total : ℕ)
-    → put (put (put (put (put b 0 2 1) 2 2 n) 4 4 headerWidth) 8 4 names) 12 4 total ≡ sets b 0 (headerBytes n names total)
+pub header-put : (b : List ℕ) (v n names total : ℕ)
+    → put (put (put (put (put b 0 2 v) 2 2 n) 4 4 headerWidth) 8 4 names) 12 4 total ≡ sets b 0 (headerBytes v n names total)
 unfolding headerBytes wordsOf
-header-put b n names total = simp put-then
-
-pub row-put : (b : List ℕ) (at : ℕ) (t : Task)
-    → put (put (put (put (put b at 4 (t .wcet)) (at + 4) 4 (t .«period_min»)) (at + 8) 4 (t .«period_max»)) (at + 12) 4 (t .«deadline_cap»))
-    (at + 16) 4 (t .weight)
-    ≡ sets b at (rowBytes t)
-unfolding wordsOf
-row-put b at t =
-    let e8 : at + 8 ≡ at + 4 + 4 = omega arith in
-    let e12 : at + 12 ≡ at + 4 + 4 + 4 = omega arith in
-    let e16 : at + 16 ≡ at + 4 + 4 + 4 + 4 = omega arith in
-    rw (e8, e12, e16) (simp put-then)
+header-put b v n names total = simp put-then
 
 -- tasks and names that fit their rows and fields
 pub record Formable (ts : List Task) (ns : List (List ℕ)) : Type 0 where
@@ -128,16 +155,19 @@ name-from name k h l =
     rw (add-one k) (drop-cons (nameBytes name) k 0 n ∙ ap (λ b. b ∷ drop (suc k) (nameBytes name)) (padded-at name (nameWidth - length name) k))
 
 -- the areas: task i's row or name, and those behind it
-module _ (ts : List Task) where
-  row-long : (i : ℕ) → i < length ts → length (rowBytes (taskAt ts i)) ≡ rowSize
-  row-long i h = words-length (rowOf (taskAt ts i))
+pub row-length : (v : ℕ) (t : Task) → length (rowBytes v t) ≡ rowSize v
+row-length v t = words-length (take (rowNumbers v) (rowOf t)) ∙ ap (λ n. 4 * n) (row-front v t)
+
+module _ (v : ℕ) (ts : List Task) where
+  row-long : (i : ℕ) → i < length ts → length (rowBytes v (taskAt ts i)) ≡ rowSize v
+  row-long i h = row-length v (taskAt ts i)
 
   pub rows-from : (i : ℕ) → i < length ts
-      → drop (rowSize * i) (rowsBytes ts) ≡ rowBytes (taskAt ts i) ++ drop (rowSize * (i + 1)) (rowsBytes ts)
-  rows-from = joined-from rowBytes noTask rowSize ts row-long
+      → drop (rowSize v * i) (rowsBytes v ts) ≡ rowBytes v (taskAt ts i) ++ drop (rowSize v * (i + 1)) (rowsBytes v ts)
+  rows-from = joined-from (rowBytes v) noTask (rowSize v) ts row-long
 
-  pub rows-length : length (rowsBytes ts) ≡ rowSize * length ts
-  rows-length = joined-length rowBytes noTask rowSize ts row-long
+  pub rows-length : length (rowsBytes v ts) ≡ rowSize v * length ts
+  rows-length = joined-length (rowBytes v) noTask (rowSize v) ts row-long
 
 module _ (ns : List (List ℕ)) (h : (i : ℕ) → i < length ns → length (getD ns i []) ≤ nameWidth) where
   field-long : (i : ℕ) → i < length ns → length (nameBytes (getD ns i [])) ≡ nameWidth
@@ -155,72 +185,85 @@ module _ (ts : List Task) (ns : List (List ℕ)) (w : Formable ts ns) where
   abbrev form : List ℕ
   form = canonical ts ns
 
+  abbrev v : ℕ
+  v = versionFor ts
+
+  -- how wide its rows are
+  abbrev width : ℕ
+  width = rowSize v
+
   abbrev areas : List ℕ
-  areas = rowsBytes ts ++ namesBytes ns
+  areas = rowsBytes v ts ++ namesBytes ns
 
-  rows-to : rowsTo ts ≡ headerWidth + rowSize * length ts
-  rows-to = ap (λ n. headerWidth + n) (rows-length ts)
+  rows-few : width * length ts ≤ 28 * maxTasks
+  rows-few = omega (arith, mul-le-mul-left width (w .few), row-range v)
 
-  names-to : namesTo ts ns ≡ headerWidth + (rowSize + nameWidth) * length ts
-  names-to = omega (arith, rows-length ts, names-length ns (w .names), w .count)
+  rows-to : rowsTo ts ≡ headerWidth + width * length ts
+  rows-to = ap (λ n. headerWidth + n) (rows-length v ts)
 
-  pub form-length : length form ≡ headerWidth + (rowSize + nameWidth) * length ts
+  names-to : namesTo ts ns ≡ headerWidth + width * length ts + nameWidth * length ts
+  names-to = omega (arith, rows-length v ts, names-length ns (w .names), w .count)
+
+  pub form-length : length form ≡ headerWidth + width * length ts + nameWidth * length ts
   unfolding canonical
   form-length =
       simp (length-append, header-length)
-      (omega (arith, rows-length ts, names-length ns (w .names), w .count))
+      (omega (arith, rows-length v ts, names-length ns (w .names), w .count))
 
-  form-version : version form ≡ 1
+  pub form-version : version form ≡ v
   unfolding canonical
-  form-version = header-version (length ts) (rowsTo ts) (namesTo ts ns) areas
+  form-version = header-version v (length ts) (rowsTo ts) (namesTo ts ns) areas (omega (arith, version-range ts))
 
   pub form-count : taskCount form ≡ length ts
   unfolding canonical
-  form-count = header-count (length ts) (rowsTo ts) (namesTo ts ns) areas (omega (arith, w .few))
+  form-count = header-count v (length ts) (rowsTo ts) (namesTo ts ns) areas (omega (arith, w .few))
 
   pub form-rows : rowsAt form ≡ headerWidth
   unfolding canonical
-  form-rows = header-rows (length ts) (rowsTo ts) (namesTo ts ns) areas
+  form-rows = header-rows v (length ts) (rowsTo ts) (namesTo ts ns) areas
 
-  pub form-names : namesAt form ≡ headerWidth + rowSize * length ts
+  pub form-names : namesAt form ≡ headerWidth + width * length ts
   unfolding canonical
-  form-names = header-names (length ts) (rowsTo ts) (namesTo ts ns) areas (omega (arith, rows-to, w .few)) ∙ rows-to
+  form-names = header-names v (length ts) (rowsTo ts) (namesTo ts ns) areas (omega (arith, rows-to, rows-few)) ∙ rows-to
 
   form-total : totalLength form ≡ length form
   unfolding canonical
   form-total =
-      header-total (length ts) (rowsTo ts) (namesTo ts ns) areas (omega (arith, names-to, w .few)) ∙ names-to ∙ sym form-length
+      header-total v (length ts) (rowsTo ts) (namesTo ts ns) areas (omega (arith, names-to, rows-few, w .few)) ∙ names-to ∙ sym form-length
 
   form-behind : drop headerWidth form ≡ areas
   unfolding canonical
-  form-behind = header-behind (length ts) (rowsTo ts) (namesTo ts ns) areas
+  form-behind = header-behind v (length ts) (rowsTo ts) (namesTo ts ns) areas
 
   -- task i and its name
   module _ (i : ℕ) (l : i < length ts) where
-    row-from : drop (headerWidth + rowSize * i) form ≡ rowBytes (taskAt ts i) ++ (drop (rowSize * (i + 1)) (rowsBytes ts) ++ namesBytes ns)
+    row-from : drop (headerWidth + width * i) form ≡ rowBytes v (taskAt ts i) ++ (drop (width * (i + 1)) (rowsBytes v ts) ++ namesBytes ns)
     row-from =
-        let k : rowSize * i ≤ length (rowsBytes ts) = omega (arith, rows-length ts) in
+        let k : width * i ≤ length (rowsBytes v ts) = omega (arith, rows-length v ts, mul-le-mul-left width l) in
         rw (
-          ← drop-drop (rowSize * i) headerWidth form,
+          ← drop-drop (width * i) headerWidth form,
           form-behind,
-          drop-append-le (rowSize * i) (rowsBytes ts) (namesBytes ns) k,
-          rows-from ts i l,
+          drop-append-le (width * i) (rowsBytes v ts) (namesBytes ns) k,
+          rows-from v ts i l,
           append-assoc,
         )
 
     pub form-task : taskOf form i ≡ taskAt ts i
-    form-task = rw form-rows (row-back form (headerWidth + rowSize * i) (taskAt ts i) _ row-from (w .tasks i l))
+    form-task =
+        let row = rw (← form-version) at row-from in
+        rw form-rows
+        (row-back form (headerWidth + rowSize (version form) * i) (taskAt ts i) (w .tasks i l) _ row (λ e. all-plain ts (sym form-version ∙ e) i l))
 
     pub form-name : nameField form i ≡ nameBytes (getD ns i [])
     form-name =
         let m : i < length ns = rw (w .count) l in
-        let e : headerWidth + rowSize * length ts + nameWidth * i ≡ headerWidth + (length (rowsBytes ts) + nameWidth * i) = omega (arith, rows-length ts) in
+        let e : headerWidth + width * length ts + nameWidth * i ≡ headerWidth + (length (rowsBytes v ts) + nameWidth * i) = omega (arith, rows-length v ts) in
         rw (
           form-names,
           e,
-          ← drop-drop (length (rowsBytes ts) + nameWidth * i) headerWidth form,
+          ← drop-drop (length (rowsBytes v ts) + nameWidth * i) headerWidth form,
           form-behind,
-          drop-append-add (rowsBytes ts) (namesBytes ns) (nameWidth * i),
+          drop-append-add (rowsBytes v ts) (namesBytes ns) (nameWidth * i),
           names-from ns (w .names) i m,
         )
         (take-at (nameBytes (getD ns i [])) _ nameWidth (name-long (getD ns i []) (w .names i m)))
@@ -231,29 +274,30 @@ module _ (ts : List Task) (ns : List (List ℕ)) (w : Formable ts ns) where
       let n = length ts in
       let size = form-length in
       rw (
-        le-between minFile (length form) maxFile (omega arith) (omega (arith, w .few)),
+        le-between minFile (length form) maxFile (omega arith) (omega (arith, rows-few, w .few)),
         form-version,
+        le-between 1 v 2 (version-range ts .0) (version-range ts .1),
         form-total,
         eq-eqb (length form) (length form) refl,
         form-count,
         le-between 1 n maxTasks (w .some) (w .few),
         form-rows,
         form-names,
-        le-ltb (length form) (headerWidth + rowSize * n) (omega arith),
-        le-ltb (headerWidth + rowSize * n) headerWidth (omega arith),
-        le-ltb (length form) (headerWidth + rowSize * n + nameWidth * n) (omega arith),
-        le-ltb (headerWidth + rowSize * n) (headerWidth + rowSize * n) (omega arith),
+        le-ltb (length form) (headerWidth + width * n) (omega arith),
+        le-ltb (headerWidth + width * n) headerWidth (omega arith),
+        le-ltb (length form) (headerWidth + width * n + nameWidth * n) (omega arith),
+        le-ltb (headerWidth + width * n) (headerWidth + width * n) (omega arith),
         and-false,
       )
 
   no-gap : (at : ℕ) → headerWidth ≤ at → at < length form → inGap form at ≡ false
   no-gap at h l =
       let n = length ts in
-      elim (le-or-lt (headerWidth + rowSize * n) at) [
-        | inl p ↦ let e = area-spans (headerWidth + rowSize * n) (headerWidth + rowSize * n + nameWidth * n) at p (omega (arith, form-length)) in
-            rw (form-count, form-rows, form-names, e, and-false)
-        | inr p ↦ let e = area-spans headerWidth (headerWidth + rowSize * n) at h p in
-            rw (form-count, form-rows, form-names, e)
+      elim (le-or-lt (headerWidth + width * n) at) [
+        | inl p ↦ let e = area-spans (headerWidth + width * n) (headerWidth + width * n + nameWidth * n) at p (omega (arith, form-length)) in
+            rw (form-version, form-count, form-rows, form-names, e, and-false)
+        | inr p ↦ let e = area-spans headerWidth (headerWidth + width * n) at h p in
+            rw (form-version, form-count, form-rows, form-names, e)
       ]
 
   pub form-no-gap : gapFault form ≡ none
@@ -263,11 +307,11 @@ module _ (ts : List Task) (ns : List (List ℕ)) (w : Formable ts ns) where
 
   -- written area by area
   pub form-stored : (b : List ℕ) → length b ≡ namesTo ts ns
-      → sets (sets (sets b 0 (headerBytes (length ts) (rowsTo ts) (namesTo ts ns))) headerWidth (rowsBytes ts)) (rowsTo ts) (namesBytes ns)
+      → sets (sets (sets b 0 (headerBytes v (length ts) (rowsTo ts) (namesTo ts ns))) headerWidth (rowsBytes v ts)) (rowsTo ts) (namesBytes ns)
       ≡ canonical ts ns
   unfolding canonical
   form-stored b l =
-      let head : List ℕ = headerBytes (length ts) (rowsTo ts) (namesTo ts ns) in
-      let first = rw (header-length (length ts) (rowsTo ts) (namesTo ts ns)) at (sets-append b head areas 0) in
-      let second = sets-append (sets b 0 head) (rowsBytes ts) (namesBytes ns) headerWidth in
+      let head : List ℕ = headerBytes v (length ts) (rowsTo ts) (namesTo ts ns) in
+      let first = rw (header-length v (length ts) (rowsTo ts) (namesTo ts ns)) at (sets-append b head areas 0) in
+      let second = sets-append (sets b 0 head) (rowsBytes v ts) (namesBytes ns) headerWidth in
       sym (first ∙ second) ∙ sets-whole b (head ++ areas) (l ∙ names-to ∙ sym form-length)

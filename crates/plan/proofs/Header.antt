@@ -13,7 +13,7 @@ use Rattle.plan.specs.declared.layout.Areas.{Areas}
 use Rattle.plan.specs.declared.layout.Layout.the-variants.{Located, Broken}
 use Rattle.plan.specs.Faults.{faultIf, passed, firstFault}
 use Rattle.plan.specs.Tasks.{minFile, maxFile, maxTasks, between}
-use Rattle.plan.specs.Layout.{headerWidth, taskCount, rowsAt, rowsEnd, namesAt, namesEnd, outside}
+use Rattle.plan.specs.Layout.{headerWidth, version, taskCount, rowWidth, rowsAt, rowsEnd, namesAt, namesEnd, outside}
 use Rattle.plan.specs.Files.{lengthFault, versionFault, countFault, totalFault, rowsFault, namesFault, overlapFault}
 use Rattle.plan.specs.Files.{headerFault, areasFault, layoutFault}
 use Rattle.plan.specs.Inner.{areasOf, laidOut, faultOfLayout, AreasOf}
@@ -63,6 +63,7 @@ module _ (s : List ℕ) where
       let rows = inside (length s) (rowsAt s) (rowsEnd s) 4 1 (or-first (rowsFault s) rest a) in
       let names = inside (length s) (namesAt s) (namesEnd s) 4 2 (or-first (namesFault s) (firstFault (overlapFault s ∷ [])) b) in
       record {
+        version = refl;
         tasks = refl;
         row-width = refl;
         rows = refl;
@@ -77,6 +78,11 @@ module _ (s : List ℕ) where
         names-from = names .0;
         names-to = names .1;
       }
+
+  pub areas-are : {v n w r r′ m m′ : ℕ} → v ≡ version s → n ≡ taskCount s → w ≡ rowWidth s → r ≡ rowsAt s → r′ ≡ rowsEnd s
+      → m ≡ namesAt s → m′ ≡ namesEnd s
+      → record { version = v; tasks = n; «row_width» = w; rows = r; «rows_end» = r′; names = m; «names_end» = m′ } ≡ areasOf s
+  areas-are a b c d e f g = rw (a, b, c, d, e, f, g)
 
   -- the layout's answer
   pub located : (a : Areas) → Located a ≡ laidOut s → AreasOf s a × (layoutFault s .number ≡ 0)

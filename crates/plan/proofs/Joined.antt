@@ -8,6 +8,10 @@ use lib.Seq.{sets, length-sets, drop-append-add}
 use Rattle.plan.specs.Lists.{joined}
 use Rattle.plan.proofs.Lists.{sets-append}
 
+-- where part i ends
+pub part-end : (w i : ℕ) → w * (i + 1) ≡ w * i + w
+part-end w i = omega arith
+
 module _ {A : Type 0} (f : A → List ℕ) (d : A) (w : ℕ) where
   -- each part has w bytes
   abbrev pub Wide : List A → Type 0

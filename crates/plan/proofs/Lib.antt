@@ -11,6 +11,7 @@ pub mod Header  -- the rules 1 to 6
 mod Gaps  -- bytes in no area
 pub mod Valid  -- valid tasks
 pub mod Accepted  -- accepted files
+mod Versions  -- row widths, and the version that tasks need
 mod Canonical  -- the canonical form of tasks and names
 mod Decoding  -- tasks decoded one by one
 pub mod Loading  -- the file's refusal, and loaded plans

@@ -50,7 +50,7 @@ layout-small : (s : List ℕ) → layoutFault s .number ≤ 11
 layout-small s =
     or-le (headerFault s) (areasFault s) 11
     (or-le (lengthFault s) _ 11 (if-le (not (between minFile (length s) maxFile)) 1 0 11 (omega arith))
-    (or-le (versionFault s) _ 11 (if-le (not (eqb (version s) 1)) 2 0 11 (omega arith))
+    (or-le (versionFault s) _ 11 (if-le (not (between 1 (version s) 2)) 2 0 11 (omega arith))
     (or-le (countFault s) _ 11 (if-le (not (between 1 (taskCount s) maxTasks)) 3 0 11 (omega arith))
     (or-le (totalFault s) none 11 (if-le (not (eqb (totalLength s) (length s))) 4 0 11 (omega arith)) (omega arith)))))
     (or-le (rowsFault s) _ 11 (if-le (outside (length s) (rowsAt s) (rowsEnd s)) 5 1 11 (omega arith))

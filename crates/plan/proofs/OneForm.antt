@@ -17,14 +17,14 @@ use Rattle.plan.specs.Layout.{headerWidth, rowSize, nameWidth, taskCount
 use Rattle.plan.specs.Names.{nameField, nameOk, withoutZeros}
 use Rattle.plan.specs.Files.{taskOf, rowFault, taskFault, tasksFault, repeatFault, sameNameFault}
 use Rattle.plan.specs.Files.{accepted, tasksOf, namesOf, nameOf}
-use Rattle.plan.specs.Canonical.{nameBytes, namesBytes, canonical, canonicalOf}
+use Rattle.plan.specs.Canonical.{versionFor, nameBytes, namesBytes, canonical, canonicalOf}
 use Rattle.plan.specs.Promises.{IsCanonical}
 use Rattle.plan.proofs.Tests.{le-between}
 use Rattle.plan.proofs.Lists.{tabulate-length, tabulate-at, tabulate-same}
 use Rattle.plan.proofs.Rules.{run-all}
 use Rattle.plan.proofs.Fields.{name-padded, earlier-same}
 use Rattle.plan.proofs.Accepted.{all-pass, accepted-areas, accepted-task, accepted-name, accepted-tasks, tasks-length, task-passes, name-passes}
-use Rattle.plan.proofs.Canonical.{Narrow, Formable, form-length, form-count, form-rows, form-names, form-task, form-name}
+use Rattle.plan.proofs.Canonical.{Narrow, Formable, form-length, form-version, form-count, form-rows, form-names, form-task, form-name}
 use Rattle.plan.proofs.Canonical.{names-length, names-from, form-laid-out, form-no-gap}
 
 -- valid fields fit their width
@@ -35,6 +35,8 @@ narrow t v = record {
   period-max = omega (arith, v .max-most);
   deadline-cap = omega (arith, v .cap-most);
   weight = omega (arith, v .weight-most);
+  blocking = omega (arith, v .blocking-most);
+  jitter = omega (arith, v .jitter-most);
 }
 
 -- the tasks and names of an accepted file, one by one
@@ -109,8 +111,8 @@ module _ (s : List ℕ) (e : accepted s ≡ true) where
   unfolding canonicalOf
   form-of = rw e
 
-  pub form-size : length (canonicalOf s) ≡ headerWidth + (rowSize + nameWidth) * taskCount s
-  form-size = rw form-of (omega (arith, form-length (tasksOf s) (namesOf s) formable, tasks-length s e))
+  pub form-size : length (canonicalOf s) ≡ headerWidth + rowSize (versionFor (tasksOf s)) * taskCount s + nameWidth * taskCount s
+  form-size = rw (form-of, ← tasks-length s e) (form-length (tasksOf s) (namesOf s) formable)
 
   -- the form's tasks and names, one by one
   same-count : taskCount form ≡ taskCount s
@@ -181,9 +183,10 @@ one-form s e =
     let n = same-count s e in
     rw (form-of s e)
     (record {
+      version = form-version ts ns w;
       rows = form-rows ts ns w;
-      names = rw (form-names ts ns w, form-rows ts ns w, n, size);
-      end = rw (form-names ts ns w, n, size) (omega (arith, form-length ts ns w));
+      names = rw (form-version ts ns w, form-names ts ns w, form-rows ts ns w, n, size);
+      end = rw (form-names ts ns w, n, ← size) (form-length ts ns w);
       accepts = form-accepted s e;
       plan = (form-tasks s e, form-names-of s e);
       again = rw (form-of f (form-accepted s e), ← form-tasks s e, ← form-names-of s e);

@@ -4,9 +4,17 @@ use Prim.Native.Nat.{ℕ}
 use Rattle.plan.specs.declared.record.Task.{Task}
 use Rattle.plan.specs.Canonical.{canonical}
 
--- C, lo, hi, cap, w
+-- C, lo, hi, cap, w; no hold and no late
 abbrev task : ℕ → ℕ → ℕ → ℕ → ℕ → Task
-task c lo hi most w = record { wcet = c; «period_min» = lo; «period_max» = hi; «deadline_cap» = most; weight = w }
+task c lo hi most w = record {
+  wcet = c;
+  «period_min» = lo;
+  «period_max» = hi;
+  «deadline_cap» = most;
+  weight = w;
+  blocking = 0;
+  jitter = 0;
+}
 
 abbrev gauge : List ℕ
 gauge = 103 ∷ 97 ∷ 117 ∷ 103 ∷ 101 ∷ []

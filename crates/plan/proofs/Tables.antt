@@ -3,8 +3,8 @@ use mathlib.Core.Path.{_≡_, sym, _∙_}
 use mathlib.Core.List.{List, [], _∷_, _++_}
 use Prim.Native.Nat.{ℕ, zero, suc, _+_, _*_, _/_, _≤_, _<_}
 use native.Mathlib.Omega.{arith}
-use lib.ListN.{length, getD, length-append, List·getD-append}
-use lib.Seq.{getD-append-seam, getD-append-add}
+use lib.ListN.{length, getD, take, drop, length-append, length-drop, List·getD-append}
+use lib.Seq.{getD-append-seam, getD-append-add, length-take-le, getD-take, getD-drop, ext-getD}
 use Rattle.plan.specs.declared.record.Task.{Task}
 use Rattle.plan.specs.Tasks.{noTask, taskAt, periodMins, periodMaxs, weights}
 use Rattle.plan.specs.Table.{rowFields, rowOf, fieldOf, taskIn, columnIn, tasksIn}
@@ -32,7 +32,19 @@ module _ (table : List ℕ) where
     field-in (suc (suc zero)) l = rw task-in
     field-in (suc (suc (suc zero))) l = rw task-in
     field-in (suc (suc (suc (suc zero)))) l = rw task-in
-    field-in (suc (suc (suc (suc (suc k))))) l = let z : ⊥ = omega arith in absurd z
+    field-in (suc (suc (suc (suc (suc zero))))) l = rw task-in
+    field-in (suc (suc (suc (suc (suc (suc zero)))))) l = rw task-in
+    field-in (suc (suc (suc (suc (suc (suc (suc k))))))) l = let z : ⊥ = omega arith in absurd z
+
+    -- its row as it lies in the table
+    pub row-in : (n : ℕ) → n ≤ rowFields → take n (drop (rowFields * i) table) ≡ take n (rowOf (taskAt (tasksIn table) i))
+    row-in n l =
+        let part = drop (rowFields * i) table in
+        let row = rowOf (taskAt (tasksIn table) i) in
+        let long : length (take n part) ≡ n = length-take-le n part (simp length-drop (omega (arith, rows-long))) in
+        ext-getD 0 (take n part) (take n row) (long ∙ sym (length-take-le n row l))
+        (λ k h. let j : k < n = omega (arith, long) in
+        getD-take n part k 0 j ∙ getD-drop (rowFields * i) table k 0 ∙ sym (getD-take n row k 0 j ∙ field-in k (omega arith)))
 
 -- one field of each task
 module _ (table : List ℕ) where
@@ -68,7 +80,15 @@ module _ (xs : List ℕ) (t : Task) (k : ℕ) (long : length xs ≡ rowFields * 
   rows-before i h =
       let at : (j : ℕ) → j < length xs → getD (xs ++ rowOf t) j 0 ≡ getD xs j 0 = λ j l. List·getD-append xs (rowOf t) 0 j l in
       let f = rowFields * i in
-      rw (at f (omega arith), at (f + 1) (omega arith), at (f + 2) (omega arith), at (f + 3) (omega arith), at (f + 4) (omega arith))
+      rw (
+        at f (omega arith),
+        at (f + 1) (omega arith),
+        at (f + 2) (omega arith),
+        at (f + 3) (omega arith),
+        at (f + 4) (omega arith),
+        at (f + 5) (omega arith),
+        at (f + 6) (omega arith),
+      )
 
   pub tasks-append : tasksIn (xs ++ rowOf t) ≡ tasksIn xs ++ (t ∷ [])
   unfolding tasksIn

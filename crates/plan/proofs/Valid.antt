@@ -10,7 +10,7 @@ use lib.ListN.{length, List·getD-eq-default}
 use borrow.Author.Tests.{leb-true, ltb-false, not-false}
 use Rattle.plan.specs.declared.record.Task.{Task}
 use Rattle.plan.specs.Faults.{faultIf}
-use Rattle.plan.specs.Tasks.{maxTicks, maxWeight, between, withinLimits, Valid, noTask, taskAt, AllValid}
+use Rattle.plan.specs.Tasks.{maxTicks, maxWeight, maxBlocking, maxJitter, between, withinLimits, Valid, noTask, taskAt, AllValid}
 use Rattle.plan.specs.Files.{rowFault}
 use Rattle.plan.proofs.Tests.{le-or-lt, and-left, and-right, between-le}
 use Rattle.plan.proofs.Rules.{or-first, or-second, if-passed}
@@ -26,13 +26,18 @@ row-valid t i e =
     let h = between 1 (t .«period_max») maxTicks in
     let k = between 1 (t .«deadline_cap») maxTicks in
     let w = leb (t .weight) maxWeight in
-    let r1 = and-right c (l && (h && (k && w))) ok in
-    let r2 = and-right l (h && (k && w)) r1 in
-    let r3 = and-right h (k && w) r2 in
-    let bc = between-le 1 (t .wcet) maxTicks (and-left c (l && (h && (k && w))) ok) in
-    let bl = between-le 1 (t .«period_min») maxTicks (and-left l (h && (k && w)) r1) in
-    let bh = between-le 1 (t .«period_max») maxTicks (and-left h (k && w) r2) in
-    let bk = between-le 1 (t .«deadline_cap») maxTicks (and-left k w r3) in
+    let b = leb (t .blocking) maxBlocking in
+    let j = leb (t .jitter) maxJitter in
+    let from-w = w && (b && j) in
+    let r1 = and-right c (l && (h && (k && from-w))) ok in
+    let r2 = and-right l (h && (k && from-w)) r1 in
+    let r3 = and-right h (k && from-w) r2 in
+    let r4 = and-right k from-w r3 in
+    let r5 = and-right w (b && j) r4 in
+    let bc = between-le 1 (t .wcet) maxTicks (and-left c (l && (h && (k && from-w))) ok) in
+    let bl = between-le 1 (t .«period_min») maxTicks (and-left l (h && (k && from-w)) r1) in
+    let bh = between-le 1 (t .«period_max») maxTicks (and-left h (k && from-w) r2) in
+    let bk = between-le 1 (t .«deadline_cap») maxTicks (and-left k from-w r3) in
     record {
       wcet-some = bc .0;
       wcet-most = bc .1;
@@ -41,7 +46,9 @@ row-valid t i e =
       max-most = bh .1;
       cap-some = bk .0;
       cap-most = bk .1;
-      weight-most = leb-true (t .weight) maxWeight (and-right k w r3);
+      weight-most = leb-true (t .weight) maxWeight (and-left w (b && j) r4);
+      blocking-most = leb-true (t .blocking) maxBlocking (and-left b j r5);
+      jitter-most = leb-true (t .jitter) maxJitter (and-right b j r5);
     }
 
 -- the limits that hold past the last task too
@@ -51,6 +58,7 @@ pub record ValidAt (ts : List Task) (k : ℕ) : Type 0 where
   pub max-most : taskAt ts k .«period_max» ≤ maxTicks
   pub cap-most : taskAt ts k .«deadline_cap» ≤ maxTicks
   pub weight-most : taskAt ts k .weight ≤ maxWeight
+  pub blocking-most : taskAt ts k .blocking ≤ maxBlocking
 
 pub valid-at : (ts : List Task) → AllValid ts → (k : ℕ) → ValidAt ts k
 valid-at ts v k = elim (le-or-lt (length ts) k) [
@@ -61,6 +69,7 @@ valid-at ts v k = elim (le-or-lt (length ts) k) [
         max-most = rw e (omega arith);
         cap-most = rw e (omega arith);
         weight-most = rw e (omega arith);
+        blocking-most = rw e (omega arith);
       }
   | inr p ↦ let w = v k p in
       record {
@@ -69,5 +78,6 @@ valid-at ts v k = elim (le-or-lt (length ts) k) [
         max-most = w .max-most;
         cap-most = w .cap-most;
         weight-most = w .weight-most;
+        blocking-most = w .blocking-most;
       }
 ]

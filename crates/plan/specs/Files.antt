@@ -18,9 +18,9 @@ use Rattle.plan.specs.Names.{nameField, nameOk, withoutZeros, namedEarli
 abbrev pub lengthFault : List ℕ → Fault
 lengthFault s = faultIf (not (between minFile (length s) maxFile)) 1 0
 
--- "2: version not 1. Place 0."
+-- "2: version not 1. Place 0."; "2 now means neither 1 nor 2"
 abbrev pub versionFault : List ℕ → Fault
-versionFault s = faultIf (not (eqb (version s) 1)) 2 0
+versionFault s = faultIf (not (between 1 (version s) 2)) 2 0
 
 -- "3: n not 1 to 16. Place 0."
 abbrev pub countFault : List ℕ → Fault

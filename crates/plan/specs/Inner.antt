@@ -15,11 +15,22 @@ use Rattle.plan.specs.declared.layout.Layout.the-variants.{Located, Brok
 use Rattle.plan.specs.Lists.{tabulate, same}
 use Rattle.plan.specs.Faults.{none, passed}
 use Rattle.plan.specs.Tasks.{maxTasks, maxFile}
-use Rattle.plan.specs.Layout.{headerWidth, taskCount, rowWidth, nameWidth, inArea}
+use Rattle.plan.specs.Layout.{headerWidth, version, taskCount, rowSize, rowWidth, nameWidth, inArea}
 use Rattle.plan.specs.Layout.{rowsAt, rowsEnd, namesAt, namesEnd}
 use Rattle.plan.specs.Names.{isNameByte}
-use Rattle.plan.specs.Files.{layoutFault, rowFault, taskOf, tasksFault, accepted}
+use Rattle.plan.specs.Files.{layoutFault, rowFault, taskOf, tasksFault, accepted, tasksOf}
 use Rattle.plan.specs.Promises.{planTasks}
+
+-- a field that rows of version 1 do not have, and the row of task i, of a file of a version
+pub record FurtherAt (s : List ℕ) (at v : ℕ) : Type 0 where
+  pub is : v ≡ version s
+  pub inside : (version s ≡ 1 → ⊥) → at + 4 ≤ length s
+
+pub record RowAt (s : List ℕ) (at v i : ℕ) : Type 0 where
+  pub is : v ≡ version s
+  pub five : at + 20 ≤ length s
+  pub seven : (version s ≡ 1 → ⊥) → at + 28 ≤ length s
+  pub few : i < maxTasks
 
 -- the row decoder's answer for task i, and the fault of each of its cases
 abbrev pub decoded : Task → ℕ → Row
@@ -32,6 +43,7 @@ faultOfRow (Refused f) = f
 -- the header's answer, and the fault of each of its cases
 abbrev pub areasOf : List ℕ → Areas
 areasOf s = record {
+  version = version s;
   tasks = taskCount s;
   «row_width» = rowWidth s;
   rows = rowsAt s;
@@ -49,6 +61,7 @@ faultOfLayout (Broken f) = f
 
 -- the areas of a file that passed rules 1 to 6
 pub record AreasOf (s : List ℕ) (a : Areas) : Type 0 where
+  pub version : a .version ≡ version s
   pub tasks : a .tasks ≡ taskCount s
   pub row-width : a .«row_width» ≡ rowWidth s
   pub rows : a .rows ≡ rowsAt s
@@ -96,9 +109,20 @@ pub record NameAt (s : List ℕ) (names i : ℕ) : Type 0 where
   pub inside : i < taskCount s
   pub begins : names ≡ namesAt s
 
+-- there is room for the rows of so few tasks in a version
+pub record HasRows (v : ℕ) (ts : List Task) (out : List ℕ) : Type 0 where
+  pub few : length ts ≤ maxTasks
+  pub fits : headerWidth + rowSize v * length ts ≤ length out
+
 -- an accepted file has so many names in the area that begins at names, and there is room for them from at on
 pub record HasNames (s : List ℕ) (names n at : ℕ) (out : List ℕ) : Type 0 where
   pub accepts : accepted s ≡ true
   pub begins : names ≡ namesAt s
   pub count : n ≡ taskCount s
   pub fits : at + nameWidth * n ≤ length out
+
+-- an accepted file has these tasks, and its names in the area that begins at names
+pub record HasPlan (s : List ℕ) (names : ℕ) (ts : List Task) : Type 0 where
+  pub accepts : accepted s ≡ true
+  pub begins : names ≡ namesAt s
+  pub tasks : ts ≡ tasksOf s

@@ -1,11 +1,11 @@
 -- The header, the two areas and the gaps. Task i is counted from 0 here; its place in a refusal is i + 1.
-use mathlib.Core.Bool.{Bool, _&&_, _||_, not}
+use mathlib.Core.Bool.{Bool, _&&_, _||_, not, cond}
 use mathlib.Core.List.{List}
 use Prim.Native.Nat.{ℕ, _+_, _*_}
-use lib.Dec.{ltb, leb}
+use lib.Dec.{eqb, ltb, leb}
 use Rattle.plan.specs.Words.{word}
 
--- "A header of 16 bytes: version at 0 (2 bytes, value 1); n at 2 (2 bytes); offset of the rows at 4, offset of the
+-- "A header of 16 bytes: version at 0 (2 bytes); n at 2 (2 bytes); offset of the rows at 4, offset of the
 -- names at 8, total length at 12 (4 bytes each)"
 abbrev pub headerWidth : ℕ
 headerWidth = 16
@@ -25,13 +25,17 @@ namesAt s = word s 8 4
 abbrev pub totalLength : List ℕ → ℕ
 totalLength s = word s 12 4
 
--- "The rows area is 20 × n bytes"; "The names area is 16 × n bytes"
-abbrev pub rowSize : ℕ
-rowSize = 20
+-- "The rows area is 20 × n bytes"; "Version 2 rows have 28 bytes": five or seven numbers, "4 bytes each"
+abbrev pub rowNumbers : ℕ → ℕ
+rowNumbers version = cond (eqb version 1) 5 7
+
+abbrev pub rowSize : ℕ → ℕ
+rowSize version = 4 * rowNumbers version
 
 abbrev pub rowWidth : List ℕ → ℕ
-rowWidth s = rowSize
+rowWidth s = rowSize (version s)
 
+-- "The names area is 16 × n bytes"
 abbrev pub nameWidth : ℕ
 nameWidth = 16
 

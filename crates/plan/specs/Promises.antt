@@ -14,10 +14,10 @@ use Rattle.plan.specs.declared.writer.Written.{Written}
 use Rattle.plan.specs.Faults.{faultIf, passed, orElse}
 use Rattle.plan.specs.Tasks.{maxTasks, AllValid}
 use Rattle.plan.specs.Table.{rowFields, tasksIn}
-use Rattle.plan.specs.Layout.{headerWidth, rowsAt, rowsEnd, namesAt, namesEnd}
+use Rattle.plan.specs.Layout.{headerWidth, version, rowsAt, rowsEnd, namesAt, namesEnd}
 use Rattle.plan.specs.Names.{nameStart}
 use Rattle.plan.specs.Files.{fileFault, accepted, tasksOf, namesOf, isNamed, nameOf}
-use Rattle.plan.specs.Canonical.{canonicalOf}
+use Rattle.plan.specs.Canonical.{versionFor, canonicalOf}
 
 -- READ: "the file to n"; "READ's n [is] 0 when refused"
 abbrev pub readOf : List ℕ → Read
@@ -44,6 +44,8 @@ SamePlan s s′ = (tasksOf s ≡ tasksOf s′) × (namesOf s ≡ namesOf s′)
 
 -- f is the one form of the plan that the file s holds
 pub record IsCanonical (s f : List ℕ) : Type 0 where
+  -- "version 1 when every hold and late is 0, else version 2"
+  pub version : version f ≡ versionFor (tasksOf s)
   -- "rows at 16, names right after, no gaps"
   pub rows : rowsAt f ≡ headerWidth
   pub names : namesAt f ≡ rowsEnd f
@@ -57,9 +59,9 @@ pub record IsCanonical (s f : List ℕ) : Type 0 where
   pub same-form : (s′ : List ℕ) → accepted s′ ≡ true → SamePlan s s′ → canonicalOf s′ ≡ f
   pub same-plan : (s′ : List ℕ) → accepted s′ ≡ true → canonicalOf s′ ≡ f → SamePlan s s′
 
--- the longest form: sixteen tasks, of 36 bytes each
+-- the longest form: sixteen tasks of version 2, of 44 bytes each
 abbrev pub maxForm : ℕ
-maxForm = 592
+maxForm = 720
 
 -- WRITE, with the space o before and o′ after
 pub record Writes (s o o′ : List ℕ) (r : Written) : Type 0 where

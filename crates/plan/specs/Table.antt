@@ -1,4 +1,4 @@
--- The tasks as functions are lent them: one table of numbers, a row of five a task, highest priority first.
+-- The tasks as functions are lent them: one table of numbers, a row of seven a task, highest priority first.
 use mathlib.Core.List.{List, [], _∷_}
 use Prim.Native.Nat.{ℕ, _+_, _*_, _/_}
 use lib.ListN.{length, getD}
@@ -6,10 +6,11 @@ use Rattle.plan.specs.declared.record.Task.{Task}
 use Rattle.plan.specs.Lists.{tabulate}
 
 abbrev pub rowFields : ℕ
-rowFields = 5
+rowFields = 7
 
 abbrev pub rowOf : Task → List ℕ
-rowOf t = t .wcet ∷ t .«period_min» ∷ t .«period_max» ∷ t .«deadline_cap» ∷ t .weight ∷ []
+rowOf t =
+    t .wcet ∷ t .«period_min» ∷ t .«period_max» ∷ t .«deadline_cap» ∷ t .weight ∷ t .blocking ∷ t .jitter ∷ []
 
 abbrev pub fieldOf : Task → ℕ → ℕ
 fieldOf t k = getD (rowOf t) k 0
@@ -21,6 +22,8 @@ taskIn table i = record {
   «period_max» = getD table (rowFields * i + 2) 0;
   «deadline_cap» = getD table (rowFields * i + 3) 0;
   weight = getD table (rowFields * i + 4) 0;
+  blocking = getD table (rowFields * i + 5) 0;
+  jitter = getD table (rowFields * i + 6) 0;
 }
 
 -- one field of each task

@@ -1,13 +1,15 @@
 -- Tasks (in plan files: jobs) and their limits. "The limits belong to the plan record itself": constants of `Plan`.
-use mathlib.Core.Bool.{Bool, _&&_}
+use mathlib.Core.Bool.{Bool, _&&_, cond}
 use mathlib.Core.List.{List, map}
 use Prim.Native.Nat.{ℕ, _+_, _≤_, _<_}
-use lib.Dec.{leb}
+use lib.Dec.{eqb, leb}
 use lib.ListN.{length, getD}
 use Rattle.plan.specs.declared.record.Task.{Task}
 use Rattle.plan.specs.Words.{word}
+use Rattle.plan.specs.Layout.{version}
 
--- "n 1 to 16; C, lo, hi, cap each 1 to 1,000,000; w 0 to 1,000; file 16 to 2,048 bytes"
+-- "n 1 to 16; C, lo, hi, cap each 1 to 1,000,000; w 0 to 1,000; file 16 to 2,048 bytes"; "hold and late, 4 bytes each,
+-- 0 to 1,000,000"
 abbrev pub maxTasks : ℕ
 maxTasks = 16
 
@@ -16,6 +18,12 @@ maxTicks = 1000000
 
 abbrev pub maxWeight : ℕ
 maxWeight = 1000
+
+abbrev pub maxBlocking : ℕ
+maxBlocking = 1000000
+
+abbrev pub maxJitter : ℕ
+maxJitter = 1000000
 
 abbrev pub minFile : ℕ
 minFile = 16
@@ -31,9 +39,14 @@ withinLimits t =
     between 1 (t .wcet) maxTicks
     && (between 1 (t .«period_min») maxTicks
     && (between 1 (t .«period_max») maxTicks
-    && (between 1 (t .«deadline_cap») maxTicks && leb (t .weight) maxWeight)))
+    && (between 1 (t .«deadline_cap») maxTicks
+    && (leb (t .weight) maxWeight && (leb (t .blocking) maxBlocking && leb (t .jitter) maxJitter)))))
 
--- "per job C, lo, hi, cap, w, 4 bytes each": the row from an offset on
+-- "per job C, lo, hi, cap, w, 4 bytes each"; "after the weight come hold and late"; "Version 1 rows mean 0 for both":
+-- the row from an offset on
+abbrev pub furtherField : List ℕ → ℕ → ℕ
+furtherField s at = cond (eqb (version s) 1) 0 (word s at 4)
+
 abbrev pub rowAt : List ℕ → ℕ → Task
 rowAt s at = record {
   wcet = word s at 4;
@@ -41,6 +54,8 @@ rowAt s at = record {
   «period_max» = word s (at + 8) 4;
   «deadline_cap» = word s (at + 12) 4;
   weight = word s (at + 16) 4;
+  blocking = furtherField s (at + 20);
+  jitter = furtherField s (at + 24);
 }
 
 -- a task that the rules 8 and 9 let pass
@@ -53,10 +68,20 @@ pub record Valid (t : Task) : Type 0 where
   pub cap-some : 1 ≤ t .«deadline_cap»
   pub cap-most : t .«deadline_cap» ≤ maxTicks
   pub weight-most : t .weight ≤ maxWeight
+  pub blocking-most : t .blocking ≤ maxBlocking
+  pub jitter-most : t .jitter ≤ maxJitter
 
 -- task i of a list, counted from 0: "Job 1 has the highest priority, then job 2, and so on"; a missing one is all zeros
 abbrev pub noTask : Task
-noTask = record { wcet = 0; «period_min» = 0; «period_max» = 0; «deadline_cap» = 0; weight = 0 }
+noTask = record {
+  wcet = 0;
+  «period_min» = 0;
+  «period_max» = 0;
+  «deadline_cap» = 0;
+  weight = 0;
+  blocking = 0;
+  jitter = 0;
+}
 
 abbrev pub taskAt : List Task → ℕ → Task
 taskAt ts i = getD ts i noTask

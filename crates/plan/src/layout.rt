@@ -1,20 +1,23 @@
 ghost use mathlib.Core.Path.{_≡_};
-ghost use Rattle.plan.specs.Layout.{outside, overlap, inArea};
+ghost use Prim.Native.Nat.{_*_, _≤_};
+ghost use Rattle.plan.specs.Layout.{rowNumbers, rowSize, outside, overlap, inArea};
+ghost use Rattle.plan.specs.Tasks.{maxTasks};
+ghost use Rattle.plan.specs.Table.{rowFields};
 ghost use Rattle.plan.specs.Files.{headerFault, gapFault};
 ghost use Rattle.plan.specs.Inner.{laidOut, faultOfLayout, AreasOf, areaEnd};
 use super::faults::Fault;
 use super::record::Plan;
+use super::words::between;
 use super::words::word2_at;
 use super::words::word4_at;
 
 pub const HEADER_WIDTH: usize = 16;
 
-pub const ROW_WIDTH: usize = 20;
-
 pub const NAME_WIDTH: usize = 16;
 
-// Where a file's rows and names start and end, how wide a row is, and how many tasks there are.
+// Where a file's rows and names start and end, of which version and how wide a row is, and how many tasks there are.
 pub struct Areas {
+    pub version: u32,
     pub tasks: usize,
     pub row_width: usize,
     pub rows: usize,
@@ -46,7 +49,7 @@ fn header_fault(file: &[u8]) -> Fault
     if Plan::MAX_FILE < size {
         return header_broken(1);
     }
-    if word2_at(file, 0) != 1 {
+    if !between(1, word2_at(file, 0), Plan::MAX_VERSION) {
         return header_broken(2);
     }
     let count = word2_at(file, 2) as usize;
@@ -60,6 +63,27 @@ fn header_fault(file: &[u8]) -> Fault
         return header_broken(4);
     }
     Fault::none()
+}
+
+// How many numbers a version's rows have, and how many bytes.
+pub fn row_numbers(version: u32) -> usize
+    ensures { λ r. ⌜ (r ≡ rowNumbers version) × (r ≤ rowFields) ⌝ }
+{
+    if version == 1 { 5 } else { 7 }
+}
+
+pub fn row_size(version: u32) -> usize
+    ensures { λ r. ⌜ (r ≡ rowSize version) × (r ≤ 28) ⌝ }
+{
+    4 * row_numbers(version)
+}
+
+// How many bytes so many rows of a version have.
+pub fn rows_size(version: u32, tasks: usize) -> usize
+    requires { ⌜ tasks ≤ maxTasks ⌝ }
+    ensures { λ r. ⌜ (r ≡ rowSize version * tasks) × (r ≤ 28 * maxTasks) ⌝ }
+{
+    row_size(version) * tasks
 }
 
 fn outside(total: usize, start: usize, end: usize) -> bool
@@ -87,9 +111,10 @@ pub fn layout_of(file: &[u8]) -> Layout
         return Layout::Broken(fault);
     }
     let total = file.len();
+    let version = word2_at(file, 0);
     let tasks = word2_at(file, 2) as usize;
     let rows = word4_at(file, 4) as usize;
-    let rows_end = rows + ROW_WIDTH * tasks;
+    let rows_end = rows + rows_size(version, tasks);
     let names = word4_at(file, 8) as usize;
     let names_end = names + NAME_WIDTH * tasks;
     if outside(total, rows, rows_end) {
@@ -111,8 +136,9 @@ pub fn layout_of(file: &[u8]) -> Layout
         });
     }
     Layout::Located(Areas {
+        version,
         tasks,
-        row_width: ROW_WIDTH,
+        row_width: row_size(version),
         rows,
         rows_end,
         names,

@@ -54,7 +54,7 @@ fn decode_tasks(file: &[u8], areas: Areas) -> Loaded
     let mut table = [0u32; Plan::TABLE];
     let mut i: usize = 0;
     while i < n {
-        let row = row_at(file, areas.rows + areas.row_width * i, i);
+        let row = row_at(file, areas.rows + areas.row_width * i, areas.version, i);
         let Row::Decoded(task) = row else {
             return Loaded::refused(row_fault(row));
         };

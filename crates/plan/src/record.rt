@@ -9,6 +9,8 @@ pub struct Task {
     pub period_max: u32,
     pub deadline_cap: u32,
     pub weight: u32,
+    pub blocking: u32,
+    pub jitter: u32,
 }
 
 // A plan: how many tasks, and their table of rows, highest priority first; the inner functions of the later layers are
@@ -25,12 +27,19 @@ impl Plan {
 
     pub const MAX_WEIGHT: u32 = 1_000;
 
+    pub const MAX_BLOCKING: u32 = 1_000_000;
+
+    pub const MAX_JITTER: u32 = 1_000_000;
+
+    // Versions of the file, from 1 on.
+    pub const MAX_VERSION: u32 = 2;
+
     pub const MIN_FILE: usize = 16;
 
     pub const MAX_FILE: usize = 2_048;
 
-    // The longest canonical form: sixteen tasks.
-    pub const MAX_FORM: usize = 592;
+    // The longest canonical form: sixteen tasks in version 2.
+    pub const MAX_FORM: usize = 720;
 
     // The fields of a row, how many, and the numbers of a table.
     pub const WCET: usize = 0;
@@ -43,7 +52,11 @@ impl Plan {
 
     pub const WEIGHT: usize = 4;
 
-    pub const ROW_FIELDS: usize = 5;
+    pub const BLOCKING: usize = 5;
+
+    pub const JITTER: usize = 6;
+
+    pub const ROW_FIELDS: usize = 7;
 
     pub const TABLE: usize = Plan::MAX_TASKS * Plan::ROW_FIELDS;
 
@@ -71,6 +84,12 @@ impl Task {
         if !between(1, self.deadline_cap, Plan::MAX_TICKS) {
             return false;
         }
-        self.weight <= Plan::MAX_WEIGHT
+        if Plan::MAX_WEIGHT < self.weight {
+            return false;
+        }
+        if Plan::MAX_BLOCKING < self.blocking {
+            return false;
+        }
+        self.jitter <= Plan::MAX_JITTER
     }
 }

@@ -1,9 +1,7 @@
 ghost use mathlib.Core.Path.{_≡_};
-ghost use Prim.Native.Nat.{_+_, _≤_, _<_};
-ghost use lib.ListN.{length};
-ghost use Rattle.plan.specs.Tasks.{rowAt, maxTasks};
-ghost use Rattle.plan.specs.Layout.{rowWidth};
-ghost use Rattle.plan.specs.Inner.{decoded, faultOfRow};
+ghost use Prim.Native.Nat.{_<_};
+ghost use Rattle.plan.specs.Tasks.{furtherField, rowAt, maxTasks};
+ghost use Rattle.plan.specs.Inner.{decoded, faultOfRow, FurtherAt, RowAt};
 use super::faults::Fault;
 use super::record::Task;
 use super::words::word4_at;
@@ -34,8 +32,17 @@ fn checked(t: Task, i: usize) -> Row
     Row::Decoded(t)
 }
 
-pub fn row_at(file: &[u8], at: usize, i: usize) -> Row
-    requires { ⌜ (at + rowWidth (now file) ≤ length (now file)) × (i < maxTasks) ⌝ }
+// A field that rows of version 1 do not have: 0 there.
+fn further_field(file: &[u8], at: usize, version: u32) -> u32
+    requires { ⌜ FurtherAt (now file) at version ⌝ }
+    ensures { λ r. ⌜ r ≡ furtherField (now (file .entry)) at ⌝ }
+{
+    if version == 1 { 0 } else { word4_at(file, at) }
+}
+
+// The row of task i, of a file of a version.
+pub fn row_at(file: &[u8], at: usize, version: u32, i: usize) -> Row
+    requires { ⌜ RowAt (now file) at version i ⌝ }
     ensures { λ r. ⌜ r ≡ decoded (rowAt (now (file .entry)) at) i ⌝ }
 {
     let task = Task {
@@ -44,6 +51,8 @@ pub fn row_at(file: &[u8], at: usize, i: usize) -> Row
         period_max: word4_at(file, at + 8),
         deadline_cap: word4_at(file, at + 12),
         weight: word4_at(file, at + 16),
+        blocking: further_field(file, at + 20, version),
+        jitter: further_field(file, at + 24, version),
     };
     checked(task, i)
 }

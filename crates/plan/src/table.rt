@@ -16,6 +16,8 @@ pub fn write_row(row: &mut [u32], t: Task)
     row[Plan::PERIOD_MAX] = t.period_max;
     row[Plan::DEADLINE_CAP] = t.deadline_cap;
     row[Plan::WEIGHT] = t.weight;
+    row[Plan::BLOCKING] = t.blocking;
+    row[Plan::JITTER] = t.jitter;
 }
 
 // How many tasks a table has.
@@ -68,18 +70,18 @@ pub fn weight(tasks: &[u32], i: usize) -> u32
     field(tasks, i, Plan::WEIGHT)
 }
 
-// Task i.
-pub fn task_at(tasks: &[u32], i: usize) -> Task
+pub fn blocking(tasks: &[u32], i: usize) -> u32
     requires { ⌜ i < length (tasksIn (now tasks)) ⌝ }
-    ensures { λ r. ⌜ r ≡ taskAt (tasksIn (now (tasks .entry))) i ⌝ }
+    ensures { λ r. ⌜ r ≡ taskAt (tasksIn (now (tasks .entry))) i .blocking ⌝ }
 {
-    Task {
-        wcet: wcet(tasks, i),
-        period_min: period_min(tasks, i),
-        period_max: period_max(tasks, i),
-        deadline_cap: deadline_cap(tasks, i),
-        weight: weight(tasks, i),
-    }
+    field(tasks, i, Plan::BLOCKING)
+}
+
+pub fn jitter(tasks: &[u32], i: usize) -> u32
+    requires { ⌜ i < length (tasksIn (now tasks)) ⌝ }
+    ensures { λ r. ⌜ r ≡ taskAt (tasksIn (now (tasks .entry))) i .jitter ⌝ }
+{
+    field(tasks, i, Plan::JITTER)
 }
 
 // One field of each task, for loops that read it again and again.

@@ -1,8 +1,8 @@
 ghost use mathlib.Core.Path.{_≡_};
-ghost use Prim.Native.Nat.{_+_, _≤_};
+ghost use Prim.Native.Nat.{_+_, _*_, _≤_};
 ghost use lib.ListN.{length};
 ghost use Rattle.plan.specs.Tasks.{between};
-ghost use Rattle.plan.specs.Words.{word, bytesOf};
+ghost use Rattle.plan.specs.Words.{word, bytesOf, wordsOf};
 ghost use lib.Seq.{sets};
 
 // A byte as a number.
@@ -43,6 +43,18 @@ pub fn put_word(out: &mut [u8], at: usize, width: usize, value: u64)
     while i < width {
         out[at + i] = (rest % 256) as u8;
         rest = rest / 256;
+        i += 1;
+    }
+}
+
+// Writes numbers in 4 bytes each from an offset on.
+pub fn put_words(out: &mut [u8], at: usize, numbers: &[u32])
+    requires { ⌜ at + 4 * length (now numbers) ≤ length (now out) ⌝ }
+    ensures { λ _. ⌜ now (out .exit) ≡ sets (now (out .entry)) at (wordsOf (now (numbers .entry))) ⌝ }
+{
+    let mut i: usize = 0;
+    while i < numbers.len() {
+        put_word(out, at + 4 * i, 4, wide(numbers[i]));
         i += 1;
     }
 }

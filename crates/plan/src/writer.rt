@@ -1,24 +1,26 @@
 ghost use mathlib.Core.Path.{_≡_};
-ghost use Prim.Native.Nat.{_+_, _*_, _≤_};
+ghost use Prim.Native.Nat.{_+_, _≤_};
 ghost use lib.ListN.{length, getD};
 ghost use lib.Seq.{sets};
-ghost use Rattle.plan.specs.Layout.{headerWidth, rowSize, nameWidth};
+ghost use Rattle.plan.specs.Layout.{headerWidth, nameWidth};
 ghost use Rattle.plan.specs.Table.{tasksIn};
 ghost use Rattle.plan.specs.Files.{namesOf};
-ghost use Rattle.plan.specs.Canonical.{headerBytes, rowBytes, nameBytes, rowsBytes, namesBytes};
+ghost use Rattle.plan.specs.Canonical.{versionFor, headerBytes, nameBytes, rowsBytes, namesBytes};
 ghost use Rattle.plan.specs.Promises.{Writes};
-ghost use Rattle.plan.specs.Inner.{HasNames};
+ghost use Rattle.plan.specs.Inner.{HasRows, HasNames, HasPlan};
 use super::faults::Fault;
 use super::layout::HEADER_WIDTH;
 use super::layout::NAME_WIDTH;
-use super::layout::ROW_WIDTH;
+use super::layout::row_numbers;
+use super::layout::rows_size;
 use super::reader::load_plan;
 use super::reader::name_at;
 use super::record::Plan;
-use super::record::Task;
-use super::table::task_at;
+use super::table::blocking;
+use super::table::jitter;
 use super::table::task_count;
 use super::words::put_word;
+use super::words::put_words;
 use super::words::wide;
 
 // WRITE's answer: the refusal, and the length of an accepted file's canonical form.
@@ -27,39 +29,52 @@ pub struct Written {
     pub size: usize,
 }
 
-// Version 1, so many tasks, their rows behind the header, their names, and the total length.
-fn put_header(out: &mut [u8], tasks: usize, names: usize, total: usize)
-    requires { ⌜ headerWidth ≤ length (now out) ⌝ }
-    ensures { λ _. ⌜ now (out .exit) ≡ sets (now (out .entry)) 0 (headerBytes tasks names total) ⌝ }
+// The version that tasks need: 1 where every blocking and jitter is 0, else 2.
+fn version_for(tasks: &[u32]) -> u32
+    ensures { λ r. ⌜ r ≡ versionFor (tasksIn (now (tasks .entry))) ⌝ }
 {
-    put_word(out, 0, 2, 1);
+    let n = task_count(tasks);
+    let mut i: usize = 0;
+    while i < n {
+        if blocking(tasks, i) != 0 {
+            return 2;
+        }
+        if jitter(tasks, i) != 0 {
+            return 2;
+        }
+        i += 1;
+    }
+    1
+}
+
+// The version, so many tasks, their rows behind the header, their names, and the total length.
+fn put_header(out: &mut [u8], version: u32, tasks: usize, names: usize, total: usize)
+    requires { ⌜ headerWidth ≤ length (now out) ⌝ }
+    ensures { λ _. ⌜ now (out .exit) ≡ sets (now (out .entry)) 0 (headerBytes version tasks names total) ⌝ }
+{
+    put_word(out, 0, 2, wide(version));
     put_word(out, 2, 2, tasks as u64);
     put_word(out, 4, 4, HEADER_WIDTH as u64);
     put_word(out, 8, 4, names as u64);
     put_word(out, 12, 4, total as u64);
 }
 
-fn put_row(out: &mut [u8], at: usize, t: Task)
-    requires { ⌜ at + rowSize ≤ length (now out) ⌝ }
-    ensures { λ _. ⌜ now (out .exit) ≡ sets (now (out .entry)) at (rowBytes t) ⌝ }
-{
-    put_word(out, at, 4, wide(t.wcet));
-    put_word(out, at + 4, 4, wide(t.period_min));
-    put_word(out, at + 8, 4, wide(t.period_max));
-    put_word(out, at + 12, 4, wide(t.deadline_cap));
-    put_word(out, at + 16, 4, wide(t.weight));
-}
-
-// The rows of a table's tasks.
-fn put_rows(out: &mut [u8], tasks: &[u32])
-    requires { ⌜ headerWidth + rowSize * length (tasksIn (now tasks)) ≤ length (now out) ⌝ }
+// The rows of a table's tasks, in a version.
+fn put_rows(out: &mut [u8], version: u32, tasks: &[u32])
+    requires { ⌜ HasRows version (tasksIn (now tasks)) (now out) ⌝ }
     ensures { λ _. ⌜ now (out .exit) ≡ sets (now (out .entry)) headerWidth
-        (rowsBytes (tasksIn (now (tasks .entry)))) ⌝ }
+        (rowsBytes version (tasksIn (now (tasks .entry)))) ⌝ }
 {
     let n = task_count(tasks);
+    let numbers = row_numbers(version);
     let mut i: usize = 0;
     while i < n {
-        put_row(out, HEADER_WIDTH + ROW_WIDTH * i, task_at(tasks, i));
+        let row = Plan::ROW_FIELDS * i;
+        put_words(
+            out,
+            HEADER_WIDTH + rows_size(version, i),
+            &tasks[row..row + numbers],
+        );
         i += 1;
     }
 }
@@ -94,18 +109,16 @@ fn put_names(out: &mut [u8], at: usize, file: &[u8], names: usize, tasks: usize)
     }
 }
 
-// WRITE: the canonical form of a file's plan, into a space of just its length.
-pub fn write_plan(file: &[u8], out: &mut [u8]) -> Written
+// The canonical form of an accepted file's tasks and of its names, which begin at an offset of it, into a space of just
+// its length.
+fn write_form(file: &[u8], names: usize, tasks: &[u32], out: &mut [u8]) -> Written
+    requires { ⌜ HasPlan (now file) names (tasksIn (now tasks)) ⌝ }
     ensures { λ r. ⌜ Writes (now (file .entry)) (now (out .entry)) (now (out .exit)) r ⌝ }
 {
-    let loaded = load_plan(file);
-    let fault = loaded.fault;
-    if fault.number != 0 {
-        return Written { fault, size: 0 };
-    }
-    let n = loaded.plan.tasks;
-    let names = HEADER_WIDTH + ROW_WIDTH * n;
-    let size = names + NAME_WIDTH * n;
+    let n = task_count(tasks);
+    let version = version_for(tasks);
+    let names_at = HEADER_WIDTH + rows_size(version, n);
+    let size = names_at + NAME_WIDTH * n;
     if out.len() != size {
         return Written {
             fault: Fault {
@@ -115,12 +128,29 @@ pub fn write_plan(file: &[u8], out: &mut [u8]) -> Written
             size,
         };
     }
-    let table = loaded.plan.table;
-    put_header(out, n, names, size);
-    put_rows(out, &table[..Plan::ROW_FIELDS * n]);
-    put_names(out, names, file, loaded.names, n);
+    put_header(out, version, n, names_at, size);
+    put_rows(out, version, tasks);
+    put_names(out, names_at, file, names, n);
     Written {
         fault: Fault::none(),
         size,
     }
+}
+
+// WRITE: the canonical form of a file's plan.
+pub fn write_plan(file: &[u8], out: &mut [u8]) -> Written
+    ensures { λ r. ⌜ Writes (now (file .entry)) (now (out .entry)) (now (out .exit)) r ⌝ }
+{
+    let loaded = load_plan(file);
+    let fault = loaded.fault;
+    if fault.number != 0 {
+        return Written { fault, size: 0 };
+    }
+    let table = loaded.plan.table;
+    write_form(
+        file,
+        loaded.names,
+        &table[..Plan::ROW_FIELDS * loaded.plan.tasks],
+        out,
+    )
 }

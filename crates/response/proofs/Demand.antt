@@ -1,5 +1,5 @@
--- The demand of task i by time t: it grows with t, falls as periods grow, is at least the task's own and that of any task
--- above, and reads the periods above i only.
+-- The demand of task i by time t: it grows with t, falls as periods grow, is at least the task's own and, but for
+-- its blocking, that of any task above, and reads the periods above i only.
 use mathlib.Core.Path.{_≡_, refl}
 use mathlib.Core.Logic.{inl, inr}
 use mathlib.Core.List.{List}
@@ -59,9 +59,10 @@ module _ (ts : List Task) where
   unfolding demand
   demand-same xs ys i t h = rw (above-same xs ys i t h)
 
-  -- a task's demand is that of any task above it, and its own
+  -- a task's demand is that of any task above it but for the latter's blocking, and its own
   module _ (xs : List ℕ) (t : ℕ) (s : 1 ≤ t) where
-    above-demand : (j i : ℕ) → j < i → ((k : ℕ) → k < i → 1 ≤ getD xs k 0) → demand ts xs j t ≤ interferenceAbove ts xs i t
+    above-demand : (j i : ℕ) → j < i → ((k : ℕ) → k < i → 1 ≤ getD xs k 0)
+        → demand ts xs j t ≤ interferenceAbove ts xs i t + taskAt ts j .blocking
     unfolding demand
     above-demand j zero l p = let z : ⊥ = omega arith in absurd z
     above-demand j (suc i) l p =
@@ -71,6 +72,6 @@ module _ (ts : List Task) where
         ]
 
     pub demand-above : (j i : ℕ) → j < i → ((k : ℕ) → k < i → 1 ≤ getD xs k 0)
-        → demand ts xs j t + ownDemand (taskAt ts i) ≤ demand ts xs i t
+        → demand ts xs j t + ownDemand (taskAt ts i) ≤ demand ts xs i t + taskAt ts j .blocking
     unfolding demand
     demand-above j i l p = omega (arith, above-demand j i l p)

@@ -7,7 +7,7 @@ use native.Mathlib.Omega.{arith}
 use lib.ListN.{length}
 use borrow.Author.Tests.{lt-ltb, le-ltb, le-leb, lt-leb}
 use Rattle.plan.specs.declared.record.Task.{Task}
-use Rattle.plan.specs.Tasks.{taskAt, AllValid}
+use Rattle.plan.specs.Tasks.{maxTicks, maxBlocking, taskAt, AllValid}
 use Rattle.plan.proofs.Tests.{le-or-lt}
 use Rattle.response.specs.Analysis.{ownDemand, demand, climbFrom, responseUpTo}
 use Rattle.response.specs.Claims.{Covers, IsResponse}
@@ -16,7 +16,10 @@ use Rattle.response.proofs.Demand.{demand-monotone, demand-own}
 
 -- a valid task has work to do
 pub own-some : (ts : List Task) → AllValid ts → (i : ℕ) → i < length ts → 1 ≤ ownDemand (taskAt ts i)
-own-some ts v i h = v i h .wcet-some
+own-some ts v i h = omega (arith, v i h .wcet-some)
+
+pub own-most : (ts : List Task) → AllValid ts → (i : ℕ) → i < length ts → ownDemand (taskAt ts i) ≤ maxTicks + maxBlocking
+own-most ts v i h = omega (arith, v i h .wcet-most, v i h .blocking-most)
 
 module _ (limit : ℕ) (ts : List Task) (xs : List ℕ) (i : ℕ) where
   climb-past : (left t : ℕ) → limit < t → climbFrom left limit ts xs i t ≡ 0

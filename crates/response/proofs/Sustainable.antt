@@ -60,30 +60,32 @@ module _ (ts : List Task) where
   pub meets-set : (xs : List ℕ) (i j v : ℕ) → i < j → meets ts (set xs j v) i ≡ meets ts xs i
   meets-set xs i j v l = meets-same (set xs j v) xs i (λ k h. getD-set-other xs j k v 0 (λ e. let z : ⊥ = omega arith in z))
 
-  -- a time that covers a task's demand covers that of every task above
-  pub covers-above : (xs : List ℕ) (j i : ℕ) → j < i → ((k : ℕ) → k < i → 1 ≤ getD xs k 0) → {limit most t : ℕ} → t ≤ limit
-      → Covers most ts xs i t → Covers limit ts xs j t
-  covers-above xs j i l p {t = t} h c =
-      record { some = c .some; early = h; covers = omega (arith, c .covers, demand-above ts xs t (c .some) j i l p) }
+  -- a task and one above it whose blocking the former's own demand outweighs
+  module _ (xs : List ℕ) (j i : ℕ) (l : j < i) (p : (k : ℕ) → k < i → 1 ≤ getD xs k 0)
+      (o : taskAt ts j .blocking ≤ ownDemand (taskAt ts i)) where
+    -- a time that covers the lower one's demand covers that of the one above
+    pub covers-above : {limit most t : ℕ} → t ≤ limit → Covers most ts xs i t → Covers limit ts xs j t
+    covers-above {t = t} h c =
+        record { some = c .some; early = h; covers = omega (arith, c .covers, demand-above ts xs t (c .some) j i l p) }
 
-  -- so a task responds no earlier than one above it and its own demand later
-  pub begins-below : (xs : List ℕ) (j i : ℕ) → j < i → ((k : ℕ) → k < i → 1 ≤ getD xs k 0) → 1 ≤ ownDemand (taskAt ts j)
-      → {limit most r : ℕ} → r ≤ limit → Begins limit ts xs j r → Begins most ts xs i (r + ownDemand (taskAt ts i))
-  begins-below xs j i l p w {limit} {r = r} h b = record {
-    some = omega (arith, b .some);
-    below = λ t c.
-        let own = ownDemand (taskAt ts i) in
-        let d = demand-above ts xs t (c .some) j i l p in
-        let early : r ≤ t - own = elim (le-or-lt (t - own) limit) [
-          | inl e ↦ b .below (t - own) (record {
-            some = omega (arith, c .covers, demand-own ts xs j t);
-            early = e;
-            covers = omega (arith, c .covers, demand-monotone ts xs j (t - own) t (omega arith));
-          })
-          | inr e ↦ omega arith
-        ] in
-        omega (arith, c .covers, b .some);
-  }
+    -- so the lower one responds no earlier than the one above without its blocking, and its own demand later
+    pub begins-below : 1 ≤ ownDemand (taskAt ts j) → {limit most r : ℕ} → r ≤ limit → Begins limit ts xs j r
+        → Begins most ts xs i (r + (ownDemand (taskAt ts i) - taskAt ts j .blocking))
+    begins-below w {limit} {r = r} h b = record {
+      some = omega (arith, b .some);
+      below = λ t c.
+          let later = ownDemand (taskAt ts i) - taskAt ts j .blocking in
+          let d = demand-above ts xs t (c .some) j i l p in
+          let early : r ≤ t - later = elim (le-or-lt (t - later) limit) [
+            | inl e ↦ b .below (t - later) (record {
+              some = omega (arith, c .covers, demand-own ts xs j t);
+              early = e;
+              covers = omega (arith, c .covers, demand-monotone ts xs j (t - later) t (omega arith));
+            })
+            | inr e ↦ omega arith
+          ] in
+          omega (arith, c .covers, b .some);
+    }
 
   -- a task with work to do meets its deadline exactly where some t covers
   module _ (i : ℕ) (w : 1 ≤ ownDemand (taskAt ts i)) (xs : List ℕ) where

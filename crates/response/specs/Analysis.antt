@@ -13,9 +13,9 @@ abbrev pub ceiling : ℕ → ℕ → ℕ
 ceiling a zero = 0
 ceiling a (suc p) = (a + p) / suc p
 
--- "its own work"
+-- "its own work"; "Hold is added once to a job's own work in its time test"
 abbrev pub ownDemand : Task → ℕ
-ownDemand task = task .wcet
+ownDemand task = task .wcet + task .blocking
 
 -- "(t over its period, rounded up)": how often a task with a period is released before time t
 abbrev pub releases : Task → ℕ → ℕ → ℕ

@@ -1,7 +1,7 @@
 ghost use mathlib.Core.Path.{_≡_};
 ghost use Prim.Native.Nat.{_*_, _≤_, _<_, min};
 ghost use lib.ListN.{length};
-ghost use Rattle.plan.specs.Tasks.{maxTicks, taskAt};
+ghost use Rattle.plan.specs.Tasks.{maxTicks, taskAt, AllValid};
 ghost use Rattle.plan.specs.Table.{tasksIn};
 ghost use Rattle.response.specs.Analysis.{ceiling, ownDemand, interference, demand, deadline};
 ghost use Rattle.response.specs.Analysis.{responseUpTo, responseTime, meets};
@@ -24,10 +24,10 @@ pub fn deadline_at(tasks: &[u32], i: usize, period: u32) -> u32
 
 // What a task demands for itself.
 pub fn own_demand(tasks: &[u32], i: usize) -> u32
-    requires { ⌜ i < length (tasksIn (now tasks)) ⌝ }
+    requires { ⌜ AllValid (tasksIn (now tasks)) × (i < length (tasksIn (now tasks))) ⌝ }
     ensures { λ r. ⌜ r ≡ ownDemand (taskAt (tasksIn (now (tasks .entry))) i) ⌝ }
 {
-    plan::wcet(tasks, i)
+    plan::wcet(tasks, i) + plan::blocking(tasks, i)
 }
 
 // a over b, rounded up.

@@ -7,10 +7,11 @@ use Prim.Native.Nat.{ℕ, _+_, _-_, _*_, _≤_}
 use lib.ListN.{length}
 use Rattle.plan.specs.declared.rows.Row.the-variants.{Refused}
 use Rattle.plan.specs.Tasks.{rowAt}
-use Rattle.plan.specs.Layout.{rowWidth}
+use Rattle.plan.specs.Layout.{version, rowWidth}
 use Rattle.plan.specs.Names.{nameField, nameOk}
 use Rattle.plan.specs.Files.{taskOf}
 use Rattle.plan.specs.Inner.{decoded, faultOfRow}
+use Rattle.plan.proofs.Versions.{row-range, numbers-seven}
 use Rattle.plan.proofs.Decoding.{Decoding, row-start, row-inside, decoding-begins, decoding-next}
 use Rattle.plan.proofs.Decoding.{row-broken, name-broken, all-decoded}
 use Rattle.plan.proofs.reader.decode_tasks.Statement.{statement}
@@ -64,7 +65,15 @@ add-row-at : tie.Need-add-row-at Inv-loop μ-loop
 add-row-at c = omega (arith, inside (c .before .before))
 
 row-at-requires : tie.Need-row-at-requires Inv-loop μ-loop
-row-at-requires c κs = (inside (c .before .before), search needs)
+row-at-requires c κs =
+    let l = c .before .before .before in
+    let row = inside (c .before .before) in
+    record {
+      is = start l .pre .version;
+      five = omega (arith, row, row-range (version (bytes l)));
+      seven = λ n. omega (arith, row, numbers-seven (version (bytes l)) n);
+      few = search needs;
+    }
 
 returns : tie.Need-returns Inv-loop μ-loop
 returns c =

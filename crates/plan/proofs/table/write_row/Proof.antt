@@ -7,6 +7,12 @@ use Rattle.plan.proofs.table.write_row.Tie as tie
 slice-write-row-5 : tie.Need-slice-write-row-5
 slice-write-row-5 c = search needs depth 6
 
+slice-write-row-6 : tie.Need-slice-write-row-6
+slice-write-row-6 c = search needs depth 7
+
+slice-write-row-7 : tie.Need-slice-write-row-7
+slice-write-row-7 c = search needs depth 8
+
 returns : tie.Need-returns
 returns c = sets-whole (c .args .row .now) (rowOf (c .args .t)) (c .pre)
 
@@ -14,4 +20,4 @@ pub write-row-spec : {M : Type 1} → statement M
 write-row-spec =
     tie.close
     (tie.spec (λ c. search needs) (λ c. search needs) (λ c. search needs) (λ c. search needs) slice-write-row-5
-    (λ c. search needs) returns)
+    slice-write-row-6 slice-write-row-7 (λ c. search needs) returns)

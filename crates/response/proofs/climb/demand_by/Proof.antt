@@ -3,10 +3,11 @@ use Prim.Native.Nat.{ℕ, suc, _+_, _-_, _*_, _≤_}
 use borrow.Author.Needs.{needs}
 use native.Mathlib.Omega.{arith}
 use native.Mathlib.Numerals.{add-one}
-use Rattle.plan.specs.Tasks.{maxTicks, taskAt}
+use Rattle.plan.specs.Tasks.{maxTicks, maxBlocking, taskAt}
 use Rattle.plan.specs.Table.{tasksIn}
 use Rattle.response.specs.Analysis.{ownDemand, interferenceAbove, demand}
 use Rattle.response.specs.Inner.{maxTime}
+use Rattle.response.proofs.Exactness.{own-most}
 use Rattle.response.proofs.climb.demand_by.Statement.{statement}
 use Rattle.response.proofs.climb.demand_by.Tie as tie
 
@@ -14,7 +15,7 @@ abbrev Inv-loop : tie.InvT-loop
 Inv-loop tasks periods i t sum₀ j₀ sum j =
     (j ≤ i)
     × ((sum ≡ ownDemand (taskAt (tasksIn tasks) i) + interferenceAbove (tasksIn tasks) periods j t)
-    × (sum ≤ maxTicks + maxTicks * maxTime * j))
+    × (sum ≤ maxTicks + maxBlocking + maxTicks * maxTime * j))
 
 abbrev μ-loop : tie.MeasureT-loop
 μ-loop tasks periods i t sum₀ j₀ sum j = suc i - j
@@ -26,7 +27,8 @@ loop-holds : tie.Need-loop-holds Inv-loop μ-loop
 loop-holds c =
     let s = c .before .before .before .before in
     let l = s .pre .0 in
-    (omega arith, (omega arith, omega (arith, l .valid (s .args .i) (omega (arith, l .sized)) .wcet-most)))
+    let own = own-most (tasksIn (s .args .tasks .now)) (l .valid) (s .args .i) (omega (arith, l .sized)) in
+    (omega arith, (omega arith, omega (arith, own)))
 
 interference-of-requires : tie.Need-interference-of-requires Inv-loop μ-loop
 interference-of-requires c κs =

@@ -2,17 +2,17 @@ use borrow.Author.Needs.{needs}
 use native.Mathlib.Omega.{arith}
 use Prim.Native.Nat.{_+_, _-_, _*_, _≤_}
 use lib.ListN.{length, getD}
 use Rattle.plan.specs.Words.{bytesOf, wordsOf}
 use Rattle.plan.proofs.Joined.{Stored, stored-none, stored-more, stored-all}
 use Rattle.plan.proofs.Bytes.{bytes-length, words-length, words-from}
-use Rattle.desk.proofs.block.put_words.Statement.{statement}
-use Rattle.desk.proofs.block.put_words.Tie as tie
+use Rattle.plan.proofs.words.put_words.Statement.{statement}
+use Rattle.plan.proofs.words.put_words.Tie as tie
 
 abbrev Inv-loop : tie.InvT-loop
-Inv-loop block₀ at numbers i₀ block i = (i ≤ length numbers) × Stored (wordsOf numbers) at block₀ block (4 * i)
+Inv-loop out₀ at numbers i₀ out i = (i ≤ length numbers) × Stored (wordsOf numbers) at out₀ out (4 * i)
 
 abbrev μ-loop : tie.MeasureT-loop
-μ-loop block₀ at numbers i₀ block i = length numbers - i
+μ-loop out₀ at numbers i₀ out i = length numbers - i
 
 loop-holds : tie.Need-loop-holds Inv-loop μ-loop
 loop-holds c = (omega arith, stored-none _ _ _)
