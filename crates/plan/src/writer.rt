@@ -1,11 +1,12 @@
 ghost use mathlib.Core.Path.{_≡_};
-ghost use Prim.Native.Nat.{_+_, _≤_};
+ghost use Prim.Native.Nat.{_+_, _≤_, _<_};
 ghost use lib.ListN.{length, getD};
 ghost use lib.Seq.{sets};
 ghost use Rattle.plan.specs.Layout.{headerWidth, nameWidth};
+ghost use Rattle.plan.specs.Tasks.{taskAt};
 ghost use Rattle.plan.specs.Table.{tasksIn};
 ghost use Rattle.plan.specs.Files.{namesOf};
-ghost use Rattle.plan.specs.Canonical.{versionFor, headerBytes, nameBytes, rowsBytes, namesBytes};
+ghost use Rattle.plan.specs.Canonical.{isPlain, versionFor, headerBytes, nameBytes, rowsBytes, namesBytes};
 ghost use Rattle.plan.specs.Promises.{Writes};
 ghost use Rattle.plan.specs.Inner.{HasRows, HasNames, HasPlan};
 use super::faults::Fault;
@@ -29,17 +30,25 @@ pub struct Written {
     pub size: usize,
 }
 
-// The version that tasks need: 1 where every blocking and jitter is 0, else 2.
+// Whether task i has no field that version 1 lacks.
+fn is_plain(tasks: &[u32], i: usize) -> bool
+    requires { ⌜ i < length (tasksIn (now tasks)) ⌝ }
+    ensures { λ r. ⌜ r ≡ isPlain (taskAt (tasksIn (now (tasks .entry))) i) ⌝ }
+{
+    if blocking(tasks, i) != 0 {
+        return false;
+    }
+    jitter(tasks, i) == 0
+}
+
+// The version that tasks need: 1 where every one is plain, else 2.
 fn version_for(tasks: &[u32]) -> u32
     ensures { λ r. ⌜ r ≡ versionFor (tasksIn (now (tasks .entry))) ⌝ }
 {
     let n = task_count(tasks);
     let mut i: usize = 0;
     while i < n {
-        if blocking(tasks, i) != 0 {
-            return 2;
-        }
-        if jitter(tasks, i) != 0 {
+        if !is_plain(tasks, i) {
             return 2;
         }
         i += 1;
