@@ -1,6 +1,6 @@
-/* BEST's incumbent as crates/optimizer/src/lowering.rt and incumbent.rt keep it. It
- * lies in the outcome, whose cost and periods an answer overwrites. Part of
- * planner.c. */
+/* BEST's incumbent as crates/boundary/src/lowering.rt and
+ * crates/optimizer/src/incumbent.rt keep it. It lies in the outcome, whose cost and
+ * periods an answer overwrites. Part of planner.c. */
 
 /* Lowers the greatest periods in turn, each to the least value from the node's on
  * that leaves all schedulable; returns their cost, or where that is above `limit`

@@ -1,4 +1,4 @@
-/* The way to the mua as crates/optimizer/src/misses.rt and mua.rt go it: jumps from
+/* The way to the mua as crates/boundary/src/misses.rt and mua.rt go it: jumps from
  * response times, and climbs that begin at the last one. Part of planner.c. */
 
 static uint32_t greater(uint32_t a, uint32_t b) { return a < b ? b : a; }

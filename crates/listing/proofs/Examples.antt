@@ -7,9 +7,9 @@ use Rattle.plan.specs.Faults.{firstFrom}
 use Rattle.plan.specs.Files.{fileFault, tasksOf}
 use Rattle.plan.proofs.Samples.{planP}
 use Rattle.response.specs.Analysis.{demand, climbFrom, responseUpTo, schedulable, responseTimes}
+use Rattle.boundary.specs.Mua.{mua}
 use Rattle.optimizer.specs.Nodes.{leastOf}
 use Rattle.optimizer.specs.Rule.{searchFrom}
-use Rattle.optimizer.specs.Mua.{mua}
 use Rattle.optimizer.specs.Search.{children}
 use Rattle.optimizer.specs.Promises.{callFault, infeasibleFault, outcomeOf}
 use Rattle.listing.specs.Text.{decimal, listingFor, listingOf}

@@ -12,9 +12,9 @@ use borrow.Author.Tests.{lt-ltb, le-ltb, not-true, not-false}
 use Rattle.plan.specs.declared.record.Task.{Task}
 use Rattle.plan.specs.Tasks.{taskAt, periodMaxs}
 use Rattle.response.proofs.Ranges.{max-at}
+use Rattle.boundary.specs.Raising.{Unschedulable}
 use Rattle.optimizer.specs.Nodes.{kept}
 use Rattle.optimizer.specs.Search.{child, childrenFrom}
-use Rattle.optimizer.specs.Raising.{Unschedulable}
 use Rattle.optimizer.specs.Inner.{nodes, Above, Expands, Dropped, HasRoom, expanded, Lists}
 use Rattle.optimizer.specs.declared.children.Step.the-variants.{Listed, Full}
 use Rattle.optimizer.proofs.Space.{length-nodes, in-space}

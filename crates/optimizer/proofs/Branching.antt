@@ -11,15 +11,20 @@ use lib.Seq.{getD-set-same, getD-set-other}
 use borrow.Author.Tests.{ltb-true, lt-ltb}
 use Rattle.plan.specs.declared.record.Task.{Task}
 use Rattle.plan.specs.Lists.{same}
-use Rattle.plan.specs.Tasks.{periodMaxs}
+use Rattle.plan.specs.Tasks.{periodMins, periodMaxs}
 use Rattle.plan.proofs.Tests.{bool, le-or-lt, eq-or-ne, both}
 use Rattle.response.proofs.Dominance.{same-eq, AtMost, at-most-or, at-most-set, set-at-most}
 use Rattle.response.proofs.Bounds.{Within, within-set}
+use Rattle.boundary.proofs.Maximal.{FailsAbove, mua-fails}
 use Rattle.optimizer.specs.Nodes.{occurrences}
 use Rattle.optimizer.specs.Search.{child, childrenFrom, children, rule}
 use Rattle.optimizer.proofs.Multiset.{Listed, listed-cases, listed-here}
 use Rattle.optimizer.proofs.Optimal.{Branches, Lawful}
-use Rattle.optimizer.proofs.Maximal.{Sound, FailsAbove, mua-fails}
+
+-- what is asked of tasks and of a time test: no minimum above its maximum, and longer periods never make an assignment unschedulable
+pub record Sound (ts : List Task) (test : List ℕ → Bool) : Type 0 where
+  pub ranged : AtMost (periodMins ts) (periodMaxs ts)
+  pub monotone : (xs ys : List ℕ) → Within ts xs → Within ts ys → AtMost xs ys → test xs ≡ true → test ys ≡ true
 
 module _ (maxs node u : List ℕ) where
   -- c is the child of a task, from some on and below n, whose period can go up

@@ -11,10 +11,10 @@ use Rattle.plan.specs.Files.{fileFault, tasksOf}
 use Rattle.plan.proofs.Samples.{variantP, planP}
 use Rattle.response.specs.Analysis.{demand, climbFrom, responseUpTo, responseTimes, schedulable}
 use Rattle.response.specs.Assignments.{cost, less}
+use Rattle.boundary.specs.Mua.{mua}
+use Rattle.boundary.specs.Lowering.{lowering}
 use Rattle.optimizer.specs.Nodes.{leastOf}
 use Rattle.optimizer.specs.Rule.{Rule, least, next, searchFrom}
-use Rattle.optimizer.specs.Mua.{mua}
-use Rattle.optimizer.specs.Lowering.{lowering}
 use Rattle.optimizer.specs.Search.{children, rule, start}
 use Rattle.optimizer.specs.Promises.{callFault, infeasibleFault, Outcome, refused, outcomeOf, outcome, bestOutcomeOf}
 

@@ -12,13 +12,13 @@ use Rattle.response.proofs.Order.{first-gt}
 use Rattle.response.specs.Analysis.{schedulable}
 use Rattle.response.specs.Assignments.{cost, before, byCost, less}
 use Rattle.response.proofs.Bounds.{Within, maxs-within}
-use Rattle.optimizer.specs.Lowering.{lowering}
-use Rattle.optimizer.specs.Search.{improved, rule, incumbentRule}
-use Rattle.optimizer.specs.Inner.{LowersUpTo, stopCost}
-use Rattle.optimizer.proofs.Maximal.{Sound}
+use Rattle.boundary.specs.Lowering.{lowering}
+use Rattle.boundary.specs.Inner.{LowersUpTo}
+use Rattle.boundary.proofs.Lowered.{lowering-meets}
+use Rattle.optimizer.specs.Search.{improved, incumbentRule}
+use Rattle.optimizer.specs.Inner.{stopCost}
 use Rattle.optimizer.proofs.Optimal.{Lawful}
-use Rattle.optimizer.proofs.Branching.{lawful}
-use Rattle.optimizer.proofs.Lowered.{lowering-meets}
+use Rattle.optimizer.proofs.Branching.{Sound, lawful}
 
 pub record Incumbent (ts : List Task) (test : List ℕ → Bool) (best : List ℕ) : Type 0 where
   pub within : Within ts best

@@ -5,11 +5,6 @@ pub mod Alike  -- two rules that end alike
 pub mod Optimal  -- why the search by a lawful rule is right
 pub mod Counting  -- the assignments within the bounds, counted
 pub mod Rounds  -- how many rounds there are
-pub mod Maximal  -- maximal unschedulable assignments
-pub mod OnePeriod  -- deadlines as one period changes
-pub mod Missing  -- the last period that misses
-pub mod Raising  -- the raising of a node
-pub mod Lowered  -- the lowering of a node
 pub mod Branching  -- the children of a node
 pub mod Improving  -- the incumbent
 pub mod Guarantees  -- what the search by a lawful rule comes to

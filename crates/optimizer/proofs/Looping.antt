@@ -11,11 +11,12 @@ use Rattle.plan.specs.declared.record.Task.{Task}
 use Rattle.plan.specs.Tasks.{maxTasks, AllValid, periodMins}
 use Rattle.response.specs.Analysis.{schedulable}
 use Rattle.response.proofs.Bounds.{true-within}
+use Rattle.boundary.specs.Inner.{LowersNode}
 use Rattle.optimizer.specs.declared.children.Step.the-variants.{Listed}
 use Rattle.optimizer.specs.declared.round.Round.{Round}
 use Rattle.optimizer.specs.Rule.{Rule, End, least, searchFrom}
 use Rattle.optimizer.specs.Search.{start}
-use Rattle.optimizer.specs.Inner.{nodes, put, LowersNode, Ready, Rounds, Concludes}
+use Rattle.optimizer.specs.Inner.{nodes, put, Ready, Rounds, Concludes}
 use Rattle.optimizer.proofs.Space.{length-nodes, first-node}
 use Rattle.optimizer.proofs.Optimal.{Lawful}
 use Rattle.optimizer.proofs.Running.{Running, running-start, running-some, running-within, running-listed}

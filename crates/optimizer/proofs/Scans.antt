@@ -11,10 +11,9 @@ use lib.ListN.{length, getD, drop, length-map, drop-of-length-le}
 use lib.Seq.{drop-cons}
 use Rattle.plan.specs.declared.record.Task.{Task}
 use Rattle.plan.specs.Tasks.{maxTasks, AllValid, weights}
-use Rattle.plan.proofs.Valid.{valid-at}
 use Rattle.response.specs.Assignments.{cost, before, byCost, less}
 use Rattle.response.proofs.Order.{first-lt, first-eq, first-gt}
-use Rattle.response.proofs.Ranges.{weight-at}
+use Rattle.response.proofs.Ranges.{light}
 use Rattle.optimizer.specs.Nodes.{leastFrom, leastOf}
 use Rattle.optimizer.specs.Inner.{nodeAt, nodes, leastIn, Weighed, Removable, Holds, IsLeast}
 use Rattle.optimizer.proofs.Space.{in-space, length-node, length-nodes, nodes-at}
@@ -56,7 +55,7 @@ pub weighed : (ts : List Task) → AllValid ts → length ts ≤ maxTasks → {x
 weighed ts v few e = record {
   few = omega arith;
   sized = e ∙ sym (length-map ts (λ t. t .weight));
-  light = λ i. rw (weight-at ts i) (valid-at ts v i .weight-most);
+  light = light ts v;
 }
 
 -- the first i periods are the same

@@ -11,6 +11,7 @@ use Rattle.plan.specs.Faults.{none, fault}
 use Rattle.plan.specs.Tasks.{periodMins, periodMaxs, weights}
 use Rattle.response.specs.Analysis.{schedulable}
 use Rattle.response.specs.Assignments.{cost}
+use Rattle.boundary.specs.Inner.{LowersNode}
 use Rattle.optimizer.specs.declared.answer.Answer.{Answer}
 use Rattle.optimizer.specs.declared.children.Step.{Step}
 use Rattle.optimizer.specs.declared.children.Step.the-variants.{Answered, Listed, Full}
@@ -18,7 +19,7 @@ use Rattle.optimizer.specs.declared.round.Round.{Round}
 use Rattle.optimizer.specs.Rule.{Rule, End, ended, least}
 use Rattle.optimizer.specs.Search.{rule, improved, incumbentRule, incumbentSearch}
 use Rattle.optimizer.specs.Promises.{roomOf}
-use Rattle.optimizer.specs.Inner.{nodes, put, Weighed, LowersNode, Goes, Rounds, Concludes, Searchable, stopCost, endedBy, Ends}
+use Rattle.optimizer.specs.Inner.{nodes, put, Weighed, Goes, Rounds, Concludes, Searchable, stopCost, endedBy, Ends}
 use Rattle.optimizer.proofs.Scans.{weighed}
 use Rattle.optimizer.proofs.Settled.{sound}
 use Rattle.optimizer.proofs.Improving.{Incumbent, incumbent-first, lawful-incumbent}

@@ -24,8 +24,8 @@ use Rattle.optimizer.specs.Rule.{Rule, searchFrom}
 use Rattle.optimizer.specs.Search.{start}
 use Rattle.optimizer.specs.Claims.{Feasible, Infeasible, IsNone, Settles}
 use Rattle.optimizer.specs.Promises.{aloneFault, noneFault, infeasibleFault, refused, searched}
-use Rattle.optimizer.proofs.Maximal.{Sound}
 use Rattle.optimizer.proofs.Optimal.{Lawful, Optimal}
+use Rattle.optimizer.proofs.Branching.{Sound}
 use Rattle.optimizer.proofs.Guarantees.{search-optimal, search-rounds, search-answers, search-budget}
 
 pub sound : {ts : List Task} → AllValid ts → Sound ts (schedulable ts)

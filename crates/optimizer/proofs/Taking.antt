@@ -15,18 +15,18 @@ use Rattle.response.specs.Analysis.{schedulable}
 use Rattle.response.specs.Inner.{Limits}
 use Rattle.response.proofs.Bounds.{Within, within-true}
 use Rattle.response.proofs.Ranges.{limits-within}
+use Rattle.boundary.specs.declared.node.Node.{Node}
+use Rattle.boundary.specs.Mua.{mua}
+use Rattle.boundary.specs.Raising.{Unschedulable}
+use Rattle.boundary.proofs.Maximal.{mua-fails}
 use Rattle.optimizer.specs.declared.nodes.Least.{Least}
-use Rattle.optimizer.specs.declared.nodes.Node.{Node}
 use Rattle.optimizer.specs.declared.children.Step.{Step}
 use Rattle.optimizer.specs.declared.children.Step.the-variants.{Answered}
 use Rattle.optimizer.specs.Nodes.{without, occurrences, SameNodes}
 use Rattle.optimizer.specs.Rule.{next}
-use Rattle.optimizer.specs.Mua.{mua}
 use Rattle.optimizer.specs.Search.{children, rule}
-use Rattle.optimizer.specs.Raising.{Unschedulable}
 use Rattle.optimizer.specs.Inner.{nodeAt, nodes, leastIn, IsLeast, Taken, Above, HasRoom, expanded, Lists, Goes, Rounds, Ready}
 use Rattle.optimizer.proofs.Multiset.{same-length, same-expanded}
-use Rattle.optimizer.proofs.Maximal.{mua-fails}
 use Rattle.optimizer.proofs.Space.{read-is}
 use Rattle.optimizer.proofs.Scans.{Counts, node-sized}
 

@@ -9,6 +9,8 @@ use Rattle.plan.specs.declared.record.Task.{Task}
 use Rattle.plan.specs.Tasks.{maxTasks, maxWeight, AllValid, periodMaxs, weights}
 use Rattle.response.specs.Analysis.{schedulable}
 use Rattle.response.specs.Assignments.{cost, dominates, withinBounds}
+use Rattle.boundary.specs.declared.node.Node.{Node}
+use Rattle.boundary.specs.Inner.{LowersNode}
 use Rattle.optimizer.specs.Nodes.{leastOf, without, dominatesSome, kept, SameNodes}
 use Rattle.optimizer.specs.Rule.{Rule, End, least, next}
 use Rattle.optimizer.specs.Search.{child, childrenFrom}
@@ -19,7 +21,6 @@ use Rattle.optimizer.specs.declared.children.Drops.the-variants.{All, On
 use Rattle.optimizer.specs.declared.children.Step.{Step}
 use Rattle.optimizer.specs.declared.children.Step.the-variants.{Answered, Listed, Full}
 use Rattle.optimizer.specs.declared.nodes.Least.{Least}
-use Rattle.optimizer.specs.declared.nodes.Node.{Node}
 use Rattle.optimizer.specs.declared.round.Round.{Round}
 
 -- "Each corner is written into its own stretch of the work space": node k of n periods, and the first count nodes
@@ -168,14 +169,6 @@ pub record Ends (keeps : Bool) (x : Outcome) (o o′ : List ℕ) (r : Answer) : 
 abbrev pub Leaves : Bool → Outcome → List ℕ → List ℕ → List ℕ → List ℕ → Answer → Type 0
 Leaves keeps x o o′ w w′ r = Answers x (writtenBy keeps x o) o′ w w′ r
 
--- a node whose lowering is looked for, among tasks that are schedulable at their longest periods
-pub record LowersNode (ts : List Task) (node : List ℕ) : Type 0 where
-  pub valid : AllValid ts
-  pub some : 1 ≤ length ts
-  pub few : length ts ≤ maxTasks
-  pub bounded : withinBounds ts node ≡ true
-  pub top : schedulable ts (periodMaxs ts) ≡ true
-
 -- an incumbent that is to be improved by the lowering of a node, with the costs of both
 pub record Improvable (ts : List Task) (keeps : Bool) (best : List ℕ) (total : ℕ) (node : List ℕ) (c : ℕ)
     : Type 0 where
@@ -183,16 +176,3 @@ pub record Improvable (ts : List Task) (keeps : Bool) (best : List ℕ) (total :
   pub sized : length best ≡ length node
   pub best-costs : total ≡ stopCost ts keeps best
   pub node-costs : c ≡ cost (weights ts) node
-
--- x is the lowering and c its cost, up to a limit; past it both are past
-pub record LowersUpTo (ws lowered : List ℕ) (limit : ℕ) (x : List ℕ) (c : ℕ) : Type 0 where
-  pub sized : length x ≡ length lowered
-  pub is : c ≤ limit → (x ≡ lowered) × (c ≡ cost ws lowered)
-  pub past : limit < c → limit < cost ws lowered
-
--- schedulable periods within the bounds, at least the node's, to be lowered
-pub record Lowers (ts : List Task) (node x : List ℕ) : Type 0 where
-  pub given : LowersNode ts node
-  pub within : withinBounds ts x ≡ true
-  pub above : (k : ℕ) → getD node k 0 ≤ getD x k 0
-  pub met : schedulable ts x ≡ true

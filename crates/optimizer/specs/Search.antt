@@ -8,9 +8,9 @@ use Rattle.plan.specs.declared.record.Task.{Task}
 use Rattle.plan.specs.Tasks.{periodMins, periodMaxs, weights}
 use Rattle.response.specs.Analysis.{schedulable}
 use Rattle.response.specs.Assignments.{less}
+use Rattle.boundary.specs.Mua.{mua}
+use Rattle.boundary.specs.Lowering.{lowering}
 use Rattle.optimizer.specs.Rule.{Rule, End, searchFrom}
-use Rattle.optimizer.specs.Mua.{mua}
-use Rattle.optimizer.specs.Lowering.{lowering}
 
 -- "For each i with U_i below hi_i, a child is L with its i-th period set to U_i + 1."
 abbrev pub child : List ℕ → List ℕ → ℕ → List ℕ

@@ -4,13 +4,12 @@ ghost use lib.ListN.{length};
 ghost use Rattle.plan.specs.Tasks.{periodMaxs, weights};
 ghost use Rattle.plan.specs.Table.{tasksIn};
 ghost use Rattle.response.specs.Analysis.{schedulable};
-ghost use Rattle.response.specs.Assignments.{cost};
 ghost use Rattle.optimizer.specs.Search.{improved};
 ghost use Rattle.optimizer.specs.Inner.{Weighed, Improvable, stopCost};
-use super::lowering::lowering;
 use super::nodes::write_node;
 use super::order::cost_of;
 use super::order::is_less;
+use boundary::lowering_of;
 use plan::Plan;
 
 // The first incumbent, where one is kept: the longest periods. Its cost, else 0.
@@ -49,7 +48,7 @@ pub fn improve(
 {
     if keeps {
         let n = node.len();
-        let lowered = lowering(tasks, node, node_cost, best_cost);
+        let lowered = lowering_of(tasks, node, node_cost, best_cost);
         let periods = lowered.periods;
         let x = &periods[..n];
         if is_less(lowered.cost, best_cost, x, best) {

@@ -2,10 +2,7 @@
 mod answer; // answer.rt: the operations' answer
 mod order; // order.rt: cost and order of period assignments
 mod nodes; // nodes.rt: open nodes in the lent work space
-mod misses; // misses.rt: the last period of a task at which a deadline is missed
-mod mua; // mua.rt: the maximal unschedulable assignment above a node
-mod lowering; // lowering.rt: a schedulable assignment above a node
-mod incumbent; // incumbent.rt: the best of these so far
+mod incumbent; // incumbent.rt: the best of the nodes' lowerings so far
 mod children; // children.rt: which children of a node are dropped, and the listing of the others
 mod round; // round.rt: one round
 mod search; // search.rt: the rounds

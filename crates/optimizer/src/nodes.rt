@@ -1,9 +1,11 @@
 use super::order;
+use boundary::Node;
+use boundary::read_node;
 use plan::Plan;
 ghost use mathlib.Core.Path.{_≡_};
 ghost use Prim.Native.Nat.{_+_, _-_, _*_, _≤_};
-ghost use lib.ListN.{length, take, replicate};
-ghost use Rattle.plan.specs.Tasks.{maxTasks, weights};
+ghost use lib.ListN.{length, replicate};
+ghost use Rattle.plan.specs.Tasks.{weights};
 ghost use Rattle.plan.specs.Table.{tasksIn};
 ghost use Rattle.response.specs.Assignments.{cost};
 ghost use Rattle.optimizer.specs.Nodes.{without, SameNodes};
@@ -17,20 +19,6 @@ pub fn node_at<'a>(work: &'a [u32], n: usize, k: usize) -> &'a [u32]
     let at = k * n;
     let end = at + n;
     &work[at..end]
-}
-
-// A copy of a node.
-pub fn read_node(node: &[u32]) -> [u32; Plan::MAX_TASKS]
-    requires { ⌜ length (now node) ≤ maxTasks ⌝ }
-    ensures { λ r. ⌜ take (length (now (node .entry))) r ≡ now (node .entry) ⌝ }
-{
-    let mut r = [0u32; Plan::MAX_TASKS];
-    let mut i = 0;
-    while i < node.len() {
-        r[i] = node[i];
-        i += 1;
-    }
-    r
 }
 
 // The node writer: a node into its stretch.
@@ -106,12 +94,6 @@ pub fn find_least(work: &[u32], tasks: &[u32], count: usize) -> Least
         node: best,
         cost: best_cost,
     }
-}
-
-// An assignment with its cost: a node taken off the open ones, or a lowering.
-pub struct Node {
-    pub cost: u64,
-    pub periods: [u32; Plan::MAX_TASKS],
 }
 
 // Takes the least node off.

@@ -2,15 +2,15 @@ ghost use Rattle.plan.specs.Tasks.{periodMaxs};
 ghost use lib.ListN.{length};
 ghost use Rattle.plan.specs.Table.{tasksIn};
 ghost use Rattle.response.specs.Analysis.{schedulable};
-ghost use Rattle.optimizer.specs.Mua.{mua};
+ghost use Rattle.boundary.specs.Mua.{mua};
+ghost use Rattle.boundary.specs.Raising.{Unschedulable};
 ghost use Rattle.optimizer.specs.Search.{rule};
-ghost use Rattle.optimizer.specs.Raising.{Unschedulable};
 ghost use Rattle.optimizer.specs.Inner.{HasRoom, Above, Lists, Ready, Rounds};
 use super::children;
 use super::children::Step;
-use super::mua;
 use super::nodes;
-use super::nodes::Node;
+use boundary::Node;
+use boundary::mua_of;
 use response::is_schedulable;
 
 // What a round comes to, and the node that it took off.
@@ -27,7 +27,7 @@ fn branch(tasks: &[u32], work: &mut [u32], count: usize, room: usize, node: &[u3
         Lists (periodMaxs ts) p (mua (schedulable ts) (periodMaxs ts) p)
         count room (now (work .entry)) (now (work .exit)) r) ⌝ }
 {
-    let u = mua::mua(tasks, node);
+    let u = mua_of(tasks, node);
     let n = node.len();
     children::expand(tasks, work, count, room, node, &u[..n])
 }

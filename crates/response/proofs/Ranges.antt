@@ -6,7 +6,7 @@ use Prim.Native.Nat.{ℕ, _≤_, _<_}
 use native.Mathlib.Omega.{arith}
 use lib.ListN.{length, getD, List·getD-map}
 use Rattle.plan.specs.declared.record.Task.{Task}
-use Rattle.plan.specs.Tasks.{maxTasks, noTask, taskAt, AllValid, periodMins, periodMaxs, weights}
+use Rattle.plan.specs.Tasks.{maxTasks, maxWeight, noTask, taskAt, AllValid, periodMins, periodMaxs, weights}
 use Rattle.plan.proofs.Valid.{valid-at}
 use Rattle.response.specs.Analysis.{schedulable}
 use Rattle.response.specs.Inner.{Limits}
@@ -27,6 +27,9 @@ module _ (ts : List Task) where
   module _ (v : AllValid ts) where
     pub ranged : AtMost (periodMins ts) (periodMaxs ts)
     ranged k = rw (min-at k, max-at k) (valid-at ts v k .ordered)
+
+    pub light : (k : ℕ) → getD (weights ts) k 0 ≤ maxWeight
+    light k = rw (weight-at k) (valid-at ts v k .weight-most)
 
     module _ {xs : List ℕ} (w : Within ts xs) where
       pub some-within : (k : ℕ) → k < length ts → 1 ≤ getD xs k 0

@@ -6,8 +6,9 @@ use lib.ListN.{length, take, length-take}
 use Rattle.plan.specs.Tasks.{periodMins}
 use Rattle.plan.specs.Table.{tasksIn}
 use Rattle.plan.proofs.Tables.{column-mins}
+use Rattle.boundary.specs.Inner.{LowersNode}
 use Rattle.optimizer.specs.Search.{incumbentSearch}
-use Rattle.optimizer.specs.Inner.{LowersNode, Improvable}
+use Rattle.optimizer.specs.Inner.{Improvable}
 use Rattle.optimizer.proofs.Looping.{ready}
 use Rattle.optimizer.proofs.Searching.{Searching, searches, searching-costs, searching-node, searching-lowers}
 use Rattle.optimizer.proofs.Searching.{searching-spent, searching-answered, searching-full, searching-on, ends-called}

@@ -1,0 +1,61 @@
+ghost use mathlib.Core.Path.{_≡_};
+ghost use lib.ListN.{length, take};
+ghost use Rattle.plan.specs.Tasks.{periodMaxs, weights};
+ghost use Rattle.plan.specs.Table.{tasksIn};
+ghost use Rattle.response.specs.Analysis.{schedulable};
+ghost use Rattle.response.specs.Assignments.{cost};
+ghost use Rattle.boundary.specs.Lowering.{lowering, loweringFrom};
+ghost use Rattle.boundary.specs.Inner.{Lowers, LowersNode, LowersUpTo};
+use super::misses::last_miss_from;
+use super::node::Node;
+use plan::Plan;
+use plan::wide;
+use response::deadline_at;
+use response::own_demand;
+use response::response_from;
+
+// Each task in turn. A task responds no earlier than the one above it plus its own demand, and the lowest no earlier
+// than before a period was lowered: their climbs begin there. The periods that are lowered and the node's below them
+// are a lower bound of the cost: past the limit the rest is left.
+fn lower_all(tasks: &[u32], x: &mut [u32], node: &[u32], node_cost: u64, limit: u64) -> u64
+    requires { ⌜ (let ts = tasksIn (now tasks) in
+        Lowers ts (now node) (now x) × («node_cost» ≡ cost (weights ts) (now node))) ⌝ }
+    ensures { λ r. ⌜ (let ts = tasksIn (now (tasks .entry)) in let p = now (node .entry) in
+        LowersUpTo (weights ts) (loweringFrom (length p) (schedulable ts) p (now (x .entry)) 0) limit
+        (now (x .exit)) r) ⌝ }
+{
+    let n = x.len();
+    let mut cost = node_cost;
+    let mut own: u32 = 0;
+    let mut start = own_demand(tasks, n - 1);
+    let mut i: usize = 0;
+    while i < n {
+        let most = x[i];
+        let begin = own + own_demand(tasks, i);
+        own = response_from(tasks, x, i, deadline_at(tasks, i, most), begin);
+        let miss = last_miss_from(tasks, x, i, own, node[i] - 1, most, start);
+        let period = miss.last + 1;
+        x[i] = period;
+        cost += wide(plan::weight(tasks, i)) * wide(period - node[i]);
+        if limit < cost {
+            return cost;
+        }
+        start = miss.response;
+        i += 1;
+    }
+    cost
+}
+
+// The lowering of a node, from the longest periods, with its cost, up to a limit; past it only that it is past.
+pub fn lowering_of(tasks: &[u32], node: &[u32], node_cost: u64, limit: u64) -> Node
+    requires { ⌜ (let ts = tasksIn (now tasks) in
+        LowersNode ts (now node) × («node_cost» ≡ cost (weights ts) (now node))) ⌝ }
+    ensures { λ r. ⌜ (let ts = tasksIn (now (tasks .entry)) in let p = now (node .entry) in
+        LowersUpTo (weights ts) (lowering (schedulable ts) (periodMaxs ts) p) limit
+        (take (length p) (r .periods)) (r .cost)) ⌝ }
+{
+    let n = node.len();
+    let mut periods = plan::column(tasks, Plan::PERIOD_MAX);
+    let cost = lower_all(tasks, &mut periods[..n], node, node_cost, limit);
+    Node { cost, periods }
+}
