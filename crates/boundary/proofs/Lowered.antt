@@ -7,9 +7,10 @@ use Prim.Native.Nat.{ℕ, zero, suc, _+_, _-_, _*_, _≤_, _<_}
 use native.Mathlib.Numerals.{add-one}
 use native.Mathlib.Omega.{arith}
 use native.Mathlib.Nat.{sub-zero, mul-le-mul, mul-le-mul-right}
+use lib.Dec.{eqb}
 use lib.ListN.{length, getD, set, length-set, length-map}
 use lib.Seq.{getD-set-same, getD-set-other, set-getD, ext-getD}
-use borrow.Author.Tests.{leb-true}
+use borrow.Author.Tests.{leb-true, le-leb, lt-leb, ne-eqb}
 use Rattle.plan.specs.declared.record.Task.{Task}
 use Rattle.plan.specs.Tasks.{maxTasks, maxTicks, maxWeight, taskAt, AllValid, periodMins, periodMaxs, weights}
 use Rattle.plan.proofs.Tests.{bool, le-or-lt, eq-or-ne, both, not-false}
@@ -28,7 +29,7 @@ use Rattle.response.proofs.Sustainable.{schedulable-all, all-schedulable, begin
 use Rattle.response.proofs.Sustainable.{meets-set as meets-other}
 use Rattle.boundary.specs.Lowering.{loweredFrom, lowered, loweringFrom, lowering}
 use Rattle.boundary.specs.Misses.{Moved, LastMiss, BeginsAt, SeeksFrom}
-use Rattle.boundary.specs.Inner.{LowersNode, LowersUpTo, Lowers}
+use Rattle.boundary.specs.Inner.{LowersNode, LowersUpTo, Lowers, beginAt, BeginsBelow}
 use Rattle.boundary.proofs.OnePeriod.{response-early, response-begins}
 
 -- a schedulable assignment within the bounds, at least the node
@@ -123,6 +124,20 @@ pub lowering-node-is : (ts : List Task) (node : List ℕ)
 unfolding lowering
 lowering-node-is ts node = refl
 
+-- where the climb of the next task may begin
+begins-next : {ts : List Task} {i : ℕ} → AllValid ts → (x : List ℕ) → ((k : ℕ) → k < length ts → 1 ≤ getD x k 0) → suc i < length ts
+    → {limit most r : ℕ} → r ≤ limit → Begins limit ts x i r → Begins most ts x (suc i) (beginAt ts (suc i) r)
+begins-next {ts} {i} v x p l h b =
+    let own = ownDemand (taskAt ts (suc i)) in
+    let blocking = taskAt ts i .blocking in
+    let later : eqb (suc i) 0 ≡ false = ne-eqb (suc i) 0 (λ z. omega arith) in
+    let here : suc i - 1 ≡ i = omega arith in
+    elim (le-or-lt blocking own) [
+      | inl o ↦ rw (later, here, le-leb blocking own o)
+          (begins-below ts x i (suc i) (omega arith) (λ k c. p k (omega arith)) o (own-some ts v i (omega arith)) h b)
+      | inr o ↦ rw (later, here, lt-leb blocking own o) (own-begins _ ts x (suc i) (own-some ts v (suc i) l))
+    ]
+
 -- as the code lowers the periods x of the tasks from task i on; own is the response time of the task above, and the climbs of the
 -- lowest may begin at start; fixed has the periods that are lowered and the node's from task i on
 pub record Lowering (ts : List Task) (node goal : List ℕ) (i : ℕ) (x : List ℕ) (total own start : ℕ) : Type 0 where
@@ -132,7 +147,7 @@ pub record Lowering (ts : List Task) (node goal : List ℕ) (i : ℕ) (x : List 
   pub meets : Meets ts (schedulable ts) node x
   pub upto : i ≤ length ts
   pub early : own ≤ maxTime
-  pub begins : i < length ts → Begins (deadlineAt ts x i) ts x i (own + ownDemand (taskAt ts i))
+  pub begins : i < length ts → Begins (deadlineAt ts x i) ts x i (beginAt ts i own)
   pub lowest : Begins (deadlineAt ts x (length x - 1)) ts x (length x - 1) start
   pub leads : loweringFrom (length node - i) (schedulable ts) node x i ≡ goal
   pub fixed : List ℕ
@@ -156,8 +171,7 @@ module _ {ts : List Task} {node : List ℕ} where
         meets = record { within = w; above = h .above; met = h .met };
         upto = omega arith;
         early = omega arith;
-        begins = λ l. let z : 0 + ownDemand (taskAt ts 0) ≡ ownDemand (taskAt ts 0) = omega arith in
-            rw z (own-begins _ ts x 0 (own-some ts (h .given .valid) 0 l));
+        begins = λ l. own-begins _ ts x 0 (own-some ts (h .given .valid) 0 l);
         lowest = rw e (own-begins _ ts x (length x - 1) (own-some ts (h .given .valid) (length x - 1) (omega (arith, w .sized, h .given .some))));
         leads = rw (sub-zero (length node));
         fixed = node;
@@ -225,10 +239,10 @@ module _ {ts : List Task} {node : List ℕ} where
       pub lowering-node : i < length node
       lowering-node = omega (arith, i-inside, g .bounded .sized)
 
-      pub begin-small : {c : ℕ} → c ≡ ownDemand (taskAt ts i) → own + c ≤ maxTime + maxTicks
-      begin-small e = omega (arith, e, g .early, valid-at ts (g .valid) i .wcet-most)
+      pub lowering-begins : BeginsBelow ts i own
+      lowering-begins = record { valid = g .valid; inside = i-inside; early = g .early }
 
-      pub lowering-climbs : Climbs (deadlineAt ts x i) ts x i (own + ownDemand (taskAt ts i))
+      pub lowering-climbs : Climbs (deadlineAt ts x i) ts x i (beginAt ts i own)
       lowering-climbs = record {
         limits = lowering-limits;
         inside = i-inside;
@@ -312,8 +326,7 @@ module _ {ts : List Task} {node : List ℕ} where
                 meets = then;
                 upto = i-inside;
                 early = omega (arith, early, lowering-limits .most i);
-                begins = λ h. begins-below ts (set x i (suc v)) i (suc i) (omega arith)
-                    (λ k e. some-within ts (g .valid) (then .within) k (omega arith)) i-works early
+                begins = λ h. begins-next (g .valid) (set x i (suc v)) (some-within ts (g .valid) (then .within)) h early
                     (record { some = some; below = λ t c. own-least t c });
                 lowest = rw (length-set x i (suc v)) (b last-below);
                 leads =

@@ -1,6 +1,6 @@
 -- The last period of a task at which deadlines are missed, as the code finds it: what holds in each loop, and one law for each turn.
 use mathlib.Core.Path.{_≡_, refl, sym, ap, _∙_}
-use mathlib.Core.Bool.{true, false}
+use mathlib.Core.Bool.{true, false, _&&_}
 use mathlib.Core.Logic.{inl, inr}
 use mathlib.Core.List.{List}
 use Prim.Native.Nat.{ℕ, suc, _+_, _-_, _≤_, _<_, max}
@@ -9,10 +9,10 @@ use native.Mathlib.Nat.{le-trans}
 use lib.Dec.{leb}
 use lib.ListN.{length, getD, set, length-set}
 use lib.Seq.{getD-set-same, set-set}
-use borrow.Author.Tests.{lt-leb, le-leb}
+use borrow.Author.Tests.{lt-leb, le-leb, leb-true}
 use Rattle.plan.specs.declared.record.Task.{Task}
 use Rattle.plan.specs.Tasks.{maxTicks, taskAt}
-use Rattle.plan.proofs.Tests.{le-or-lt, eq-or-ne}
+use Rattle.plan.proofs.Tests.{le-or-lt, eq-or-ne, and-left, and-right}
 use Rattle.response.specs.Analysis.{ceiling, ownDemand, deadlineAt, responseUpTo, responseTime, meets}
 use Rattle.response.specs.Claims.{Covers}
 use Rattle.response.specs.Inner.{maxTime, Limits, Climbs}
@@ -20,7 +20,7 @@ use Rattle.response.proofs.Ceiling.{ceiling-some, ceiling-upto}
 use Rattle.response.proofs.Limits.{limits-set}
 use Rattle.response.proofs.Exactness.{own-some, own-begins}
 use Rattle.response.proofs.Sustainable.{covers-above, covers-meets, schedulable-none}
-use Rattle.boundary.specs.Misses.{Range, Moved, LastMiss, BeginsAt, Responds, Seeks, SeeksBetween, SeeksBelow, SeeksFrom}
+use Rattle.boundary.specs.Misses.{Range, Moved, LastMiss, BeginsAt, settles, Responds, Seeks, SeeksBetween, SeeksBelow, SeeksFrom}
 use Rattle.boundary.proofs.OnePeriod.{alike, alike-le, alike-releases, response-early, deadline-other, own-meets}
 use Rattle.boundary.proofs.OnePeriod.{released-covers, shorter-begins, response-begins}
 
@@ -45,6 +45,9 @@ module _ {ts : List Task} {i : ℕ} where
     moved-deadline j n =
         sym (deadline-other ts u′ i j 0 n) ∙ ap (λ x. deadlineAt ts x j) (m .only 0) ∙ deadline-other ts u i j 0 n
 
+    moved-settles : (j own r : ℕ) → (j ≡ i → ⊥) → settles (taskAt ts j) (getD u′ j 0) own r ≡ settles (taskAt ts j) (getD u j 0) own r
+    moved-settles j own r n = ap (λ d. leb r d && leb (taskAt ts j .blocking) own) (moved-deadline j n)
+
     range-moved : {low most v : ℕ} → Range ts u i low most → v ≤ most → Range ts u′ i v most
     range-moved r h = record {
       limits = m .limits;
@@ -62,9 +65,10 @@ module _ {ts : List Task} {i : ℕ} where
     }
 
     responds-moved : {k most v r : ℕ} → Responds ts u i k most v r → Responds ts u′ i k most v r
-    responds-moved {v = v} s = record {
+    responds-moved {k} {v = v} {r} s = record {
       begins = λ h. rw (m .only (suc v)) (s .begins h);
-      meet = λ j a b h y c d. rw (m .only y) (s .meet j a b (rw (moved-deadline j (λ e. omega arith)) at h) y c d);
+      meet = λ j a b h y c d. rw (m .only y)
+          (s .meet j a b (sym (moved-settles j (ownDemand (taskAt ts k)) r (λ e. omega arith)) ∙ h) y c d);
     }
 
 -- first of the lower tasks, then of those above them
@@ -150,9 +154,12 @@ module _ {ts : List Task} {u : List ℕ} {i k low most : ℕ} where
     probing-responds e = record {
       begins = λ l. g .begins (suc last) (omega arith) (omega arith) (omega arith);
       meet = λ j a b h y c d.
+          let own = ownDemand (taskAt ts k) in
+          let early = leb response (deadlineAt ts u j) in
+          let light = leb (taskAt ts j .blocking) own in
           covers-meets ts j (own-some ts (q .range .limits .valid) j (omega (arith, k-inside q))) (set u i y)
-          (covers-above ts (set u i y) j k b (some-set q y (omega arith) d)
-          (rw (deadline-other ts u i j y (λ z. omega arith)) h) (g .covers y (omega arith) d));
+          (covers-above ts (set u i y) j k b (some-set q y (omega arith) d) (leb-true _ own (and-right early light h))
+          (rw (deadline-other ts u i j y (λ z. omega arith)) (leb-true response _ (and-left early light h))) (g .covers y (omega arith) d));
     }
 
     module _ {p : ℕ} (a : (last < p) × (p < high)) where
@@ -212,21 +219,22 @@ module _ {ts : List Task} {u : List ℕ} {i k low most : ℕ} where
               begins = λ y c d h. shorter q (response-begins _ ts (set u i p) k (works q) response-is s) y (omega arith) d (omega arith);
             }
 
--- the same of the tasks between task i and task k, from the lowest up: those below task j are done, and so is every other whose
--- deadline is not before the response time
-pub record Between (ts : List Task) (u : List ℕ) (i k low most : ℕ) (u′ : List ℕ) (last response j : ℕ) : Type 0 where
+-- the same of the tasks between task i and task k, from the lowest up: those below task j are done, and so is every other that the
+-- response time of a task with such an own demand settles
+pub record Between (ts : List Task) (u : List ℕ) (i k low most : ℕ) (u′ : List ℕ) (last response own j : ℕ) : Type 0 where
   pub range : Range ts u i low most
   pub inside : k < length u
   pub above : i ≤ j
   pub below : j < k
   pub is : LastMiss ts u i (suc j) k low most last
-  pub meet : (m : ℕ) → i < m → m ≤ j → response ≤ deadlineAt ts u m
+  pub meet : (m : ℕ) → i < m → m ≤ j → settles (taskAt ts m) (getD u m 0) own response ≡ true
       → (y : ℕ) → last < y → y ≤ most → meets ts (set u i y) m ≡ true
   pub moved : Moved ts i u u′
 
 module _ {ts : List Task} {u : List ℕ} {i k low most : ℕ} where
-  pub between-start : {r : ℕ} → SeeksBetween ts u i k most low r → Between ts u i k low most u low r (k - 1)
-  between-start q = record {
+  pub between-start : {r own : ℕ} → SeeksBetween ts u i k most low r → own ≡ ownDemand (taskAt ts k)
+      → Between ts u i k low most u low r own (k - 1)
+  between-start q o = record {
     range = q .range;
     inside = q .inside;
     above = omega (arith, q .below);
@@ -237,11 +245,11 @@ module _ {ts : List Task} {u : List ℕ} {i k low most : ℕ} where
       misses = λ l. let z : ⊥ = omega arith in absurd z;
       past = λ j c d y e f. let z : ⊥ = omega (arith, q .below) in absurd z;
     };
-    meet = λ m c d. q .responds .meet m c (omega (arith, q .below));
+    meet = λ m c d s. q .responds .meet m c (omega (arith, q .below)) (rw o at s);
     moved = moved-none (q .range .limits);
   }
 
-  module _ {u′ : List ℕ} {last response j : ℕ} (g : Between ts u i k low most u′ last response j) where
+  module _ {u′ : List ℕ} {last response own j : ℕ} (g : Between ts u i k low most u′ last response own j) where
     pub between-end : j ≤ i → LastMiss ts u i (suc i) k low most last
     between-end h = let e : j ≡ i = omega (arith, g .above) in rw e at (g .is)
 
@@ -249,9 +257,10 @@ module _ {ts : List Task} {u : List ℕ} {i k low most : ℕ} where
     between-inside = omega (arith, g .below, g .inside, moved-length (g .range .limits) (g .moved))
 
     module _ (h : i < j) where
-      between-on : {u″ : List ℕ} {v r : ℕ} → LastMiss ts u i j (suc j) last most v → Moved ts i u u″
-          → ((m : ℕ) → i < m → m < j → r ≤ deadlineAt ts u m → (y : ℕ) → v < y → y ≤ most → meets ts (set u i y) m ≡ true)
-          → Between ts u i k low most u″ v r (j - 1)
+      between-on : {u″ : List ℕ} {v r o : ℕ} → LastMiss ts u i j (suc j) last most v → Moved ts i u u″
+          → ((m : ℕ) → i < m → m < j → settles (taskAt ts m) (getD u m 0) o r ≡ true
+          → (y : ℕ) → v < y → y ≤ most → meets ts (set u i y) m ≡ true)
+          → Between ts u i k low most u″ v r o (j - 1)
       between-on l m s = let e : suc (j - 1) ≡ j = omega arith in record {
         range = g .range;
         inside = g .inside;
@@ -262,17 +271,17 @@ module _ {ts : List Task} {u : List ℕ} {i k low most : ℕ} where
         moved = m;
       }
 
-      -- skipped: its deadline is not before the response time
-      pub between-skip : response ≤ deadlineAt ts u′ j → Between ts u i k low most u′ last response (j - 1)
+      -- skipped: it is settled
+      pub between-skip : settles (taskAt ts j) (getD u′ j 0) own response ≡ true → Between ts u i k low most u′ last response own (j - 1)
       between-skip d = between-on (record {
         above = omega arith;
         upto = g .is .upto;
         misses = λ o. let z : ⊥ = omega arith in absurd z;
         past = λ m a b y c e. let z : m ≡ j = omega arith in
-            rw z (g .meet j h (omega arith) (rw (moved-deadline (g .moved) j (λ q. omega arith)) at d) y c e);
+            rw z (g .meet j h (omega arith) (sym (moved-settles (g .moved) j own response (λ q. omega arith)) ∙ d) y c e);
       }) (g .moved) (λ m a b. g .meet m a (omega arith))
 
-      pub between-seeks : {own : ℕ} → own ≡ ownDemand (taskAt ts j) → Seeks ts u′ i j last most own
+      pub between-seeks : {o : ℕ} → o ≡ ownDemand (taskAt ts j) → Seeks ts u′ i j last most o
       between-seeks e = record {
         range = range-moved (g .moved) (g .range) (g .is .upto);
         below = h;
@@ -282,10 +291,10 @@ module _ {ts : List Task} {u : List ℕ} {i k low most : ℕ} where
       }
 
       pub between-sought : {u″ : List ℕ} {v r : ℕ} → LastMiss ts u′ i j (suc j) last most v → Responds ts u′ i j most v r
-          → Moved ts i u′ u″ → Between ts u i k low most u″ v r (j - 1)
-      between-sought {r = r} l s m = between-on {r = r} (last-moved (g .moved) l) (moved-on (g .moved) m)
+          → Moved ts i u′ u″ → {o : ℕ} → o ≡ ownDemand (taskAt ts j) → Between ts u i k low most u″ v r o (j - 1)
+      between-sought {r = r} l s m {o} q = between-on {r = r} {o = o} (last-moved (g .moved) l) (moved-on (g .moved) m)
           (λ x a b d y c e. rw (g .moved .only y) at
-          (s .meet x a b (rw (sym (moved-deadline (g .moved) x (λ q. omega arith))) at d) y c e))
+          (s .meet x a b (moved-settles (g .moved) x _ r (λ z. omega arith) ∙ rw q at d) y c e))
 
 -- the same of all tasks below task i
 module _ {ts : List Task} {u : List ℕ} {i low most start : ℕ} (q : SeeksBelow ts u i low most start) where

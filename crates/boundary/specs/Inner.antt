@@ -1,13 +1,15 @@
 -- What the functions that lower a node ask and promise.
 use mathlib.Core.Path.{_≡_}
-use mathlib.Core.Bool.{true}
+use mathlib.Core.Bool.{true, cond}
 use mathlib.Core.List.{List}
-use Prim.Native.Nat.{ℕ, _≤_, _<_}
+use Prim.Native.Nat.{ℕ, _+_, _-_, _≤_, _<_}
+use lib.Dec.{eqb, leb}
 use lib.ListN.{length, getD}
 use Rattle.plan.specs.declared.record.Task.{Task}
-use Rattle.plan.specs.Tasks.{maxTasks, AllValid, periodMaxs}
-use Rattle.response.specs.Analysis.{schedulable}
+use Rattle.plan.specs.Tasks.{maxTasks, taskAt, AllValid, periodMaxs}
+use Rattle.response.specs.Analysis.{ownDemand, schedulable}
 use Rattle.response.specs.Assignments.{cost, withinBounds}
+use Rattle.response.specs.Inner.{maxTime}
 
 -- a node whose lowering is looked for, among tasks that are schedulable at their longest periods
 pub record LowersNode (ts : List Task) (node : List ℕ) : Type 0 where
@@ -29,3 +31,14 @@ pub record Lowers (ts : List Task) (node x : List ℕ) : Type 0 where
   pub within : withinBounds ts x ≡ true
   pub above : (k : ℕ) → getD node k 0 ≤ getD x k 0
   pub met : schedulable ts x ≡ true
+
+-- where a climb of task i may begin, the task right above it having responded at a time
+abbrev pub beginAt : List Task → ℕ → ℕ → ℕ
+beginAt ts i above =
+    let own = ownDemand (taskAt ts i) in let blocking = taskAt ts (i - 1) .blocking in
+    cond (eqb i 0) own (cond (leb blocking own) (above + (own - blocking)) own)
+
+pub record BeginsBelow (ts : List Task) (i above : ℕ) : Type 0 where
+  pub valid : AllValid ts
+  pub inside : i < length ts
+  pub early : above ≤ maxTime

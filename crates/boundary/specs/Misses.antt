@@ -1,12 +1,13 @@
 -- What the functions ask and promise that look for the last period of a task at which deadlines are missed.
 use mathlib.Core.Path.{_≡_}
-use mathlib.Core.Bool.{true, false}
+use mathlib.Core.Bool.{Bool, true, false, _&&_}
 use mathlib.Core.List.{List}
 use Prim.Native.Nat.{ℕ, suc, _-_, _≤_, _<_}
-use lib.ListN.{length, set}
+use lib.Dec.{leb}
+use lib.ListN.{length, getD, set}
 use Rattle.plan.specs.declared.record.Task.{Task}
-use Rattle.plan.specs.Tasks.{maxTicks}
-use Rattle.response.specs.Analysis.{deadlineAt, responseTime, meets, schedulable}
+use Rattle.plan.specs.Tasks.{maxTicks, taskAt}
+use Rattle.response.specs.Analysis.{ownDemand, deadline, deadlineAt, responseTime, meets, schedulable}
 use Rattle.response.specs.Inner.{Limits, Begins}
 
 -- where the period of task i may go
@@ -33,11 +34,16 @@ pub record LastMiss (ts : List Task) (u : List ℕ) (i k n low most v : ℕ) : T
 abbrev pub BeginsAt : List Task → List ℕ → ℕ → ℕ → ℕ → ℕ → Type 0
 BeginsAt ts u i v k t = Begins (deadlineAt ts (set u i v) k) ts (set u i v) k t
 
--- r is a time of task k: no climb right past v need begin before it; and a task above it, below task i, meets its
--- deadline everywhere past v if that deadline is not before r
+-- whether a time that covers the demand of a lower task, with its own demand, covers that of a task in time, too: the
+-- task's blocking is in its own demand only
+abbrev pub settles : Task → ℕ → ℕ → ℕ → Bool
+settles task period own r = leb r (deadline task period) && leb (task .blocking) own
+
+-- r is a time of task k: no climb right past v need begin before it; and a task above it, below task i, that it settles
+-- meets its deadline everywhere past v
 pub record Responds (ts : List Task) (u : List ℕ) (i k most v r : ℕ) : Type 0 where
   pub begins : v < most → BeginsAt ts u i (suc v) k r
-  pub meet : (j : ℕ) → i < j → j < k → r ≤ deadlineAt ts u j
+  pub meet : (j : ℕ) → i < j → j < k → settles (taskAt ts j) (getD u j 0) (ownDemand (taskAt ts k)) r ≡ true
       → (y : ℕ) → v < y → y ≤ most → meets ts (set u i y) j ≡ true
 
 -- the last period at which task k misses is looked for, below task i; its climbs may begin at start

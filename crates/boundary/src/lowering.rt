@@ -5,7 +5,7 @@ ghost use Rattle.plan.specs.Table.{tasksIn};
 ghost use Rattle.response.specs.Analysis.{schedulable};
 ghost use Rattle.response.specs.Assignments.{cost};
 ghost use Rattle.boundary.specs.Lowering.{lowering, loweringFrom};
-ghost use Rattle.boundary.specs.Inner.{Lowers, LowersNode, LowersUpTo};
+ghost use Rattle.boundary.specs.Inner.{beginAt, BeginsBelow, Lowers, LowersNode, LowersUpTo};
 use super::misses::last_miss_from;
 use super::node::Node;
 use plan::Plan;
@@ -14,8 +14,26 @@ use response::deadline_at;
 use response::own_demand;
 use response::response_from;
 
-// Each task in turn. A task responds no earlier than the one above it plus its own demand, and the lowest no earlier
-// than before a period was lowered: their climbs begin there. The periods that are lowered and the node's below them
+// Where the climb of task i may begin, the response time of the task right above it being known: that one responds no
+// later without its blocking, which task i does not see, and task i its own demand later. A blocking above that demand
+// tells nothing.
+fn begin_at(tasks: &[u32], i: usize, above: u32) -> u32
+    requires { ⌜ BeginsBelow (tasksIn (now tasks)) i above ⌝ }
+    ensures { λ r. ⌜ r ≡ beginAt (tasksIn (now (tasks .entry))) i above ⌝ }
+{
+    let own = own_demand(tasks, i);
+    if i == 0 {
+        return own;
+    }
+    let blocking = plan::blocking(tasks, i - 1);
+    if own < blocking {
+        return own;
+    }
+    above + (own - blocking)
+}
+
+// Each task in turn. A task responds no earlier than `begin_at`, and the lowest no earlier than before a period was
+// lowered: their climbs begin there. The periods that are lowered and the node's below them
 // are a lower bound of the cost: past the limit the rest is left.
 fn lower_all(tasks: &[u32], x: &mut [u32], node: &[u32], node_cost: u64, limit: u64) -> u64
     requires { ⌜ (let ts = tasksIn (now tasks) in
@@ -31,7 +49,7 @@ fn lower_all(tasks: &[u32], x: &mut [u32], node: &[u32], node_cost: u64, limit: 
     let mut i: usize = 0;
     while i < n {
         let most = x[i];
-        let begin = own + own_demand(tasks, i);
+        let begin = begin_at(tasks, i, own);
         own = response_from(tasks, x, i, deadline_at(tasks, i, most), begin);
         let miss = last_miss_from(tasks, x, i, own, node[i] - 1, most, start);
         let period = miss.last + 1;

@@ -1,9 +1,9 @@
 ghost use mathlib.Core.Path.{_≡_};
 ghost use Prim.Native.Nat.{suc, _+_, _-_, _≤_, _<_, max};
 ghost use lib.ListN.{length};
-ghost use Rattle.plan.specs.Tasks.{maxTicks};
+ghost use Rattle.plan.specs.Tasks.{maxTicks, taskAt};
 ghost use Rattle.plan.specs.Table.{tasksIn};
-ghost use Rattle.boundary.specs.Misses.{Moved, LastMiss, BeginsAt, Responds};
+ghost use Rattle.boundary.specs.Misses.{Moved, LastMiss, BeginsAt, Responds, settles};
 ghost use Rattle.boundary.specs.Misses.{Seeks, SeeksBetween, SeeksBelow, SeeksFrom};
 use response::deadline_at;
 use response::own_demand;
@@ -75,8 +75,19 @@ fn last_miss(
     Miss { last, response }
 }
 
+// Whether a lower task's response time, with its own demand, settles task j at a period.
+fn settles(tasks: &[u32], j: usize, period: u32, own: u32, response: u32) -> bool
+    requires { ⌜ j < length (tasksIn (now tasks)) ⌝ }
+    ensures { λ r. ⌜ r ≡ settles (taskAt (tasksIn (now (tasks .entry))) j) period own response ⌝ }
+{
+    if deadline_at(tasks, j, period) < response {
+        return false;
+    }
+    plan::blocking(tasks, j) <= own
+}
+
 // The same of the tasks between task i and task k, whose last miss and response time are known: these settle every task
-// whose deadline is not before that time.
+// whose deadline is not before that time and whose blocking is not above task k's own demand.
 fn last_miss_between(
     tasks: &[u32],
     u: &mut [u32],
@@ -92,10 +103,12 @@ fn last_miss_between(
 {
     let mut last = known.last;
     let mut response = known.response;
+    let mut own = own_demand(tasks, k);
     let mut j = k - 1;
     while i < j {
-        if deadline_at(tasks, j, u[j]) < response {
-            let miss = last_miss(tasks, u, i, j, last, most, own_demand(tasks, j));
+        if !settles(tasks, j, u[j], own, response) {
+            own = own_demand(tasks, j);
+            let miss = last_miss(tasks, u, i, j, last, most, own);
             last = miss.last;
             response = miss.response;
         }

@@ -10,7 +10,7 @@ use Rattle.plan.specs.Table.{tasksIn}
 use Rattle.response.specs.Analysis.{responseTime, schedulable}
 use Rattle.boundary.specs.Lowering.{loweringFrom}
 use Rattle.boundary.proofs.Lowered.{Lowering, lowering-start, lowering-limits, lowering-node, node-some, lowering-climbs}
-use Rattle.boundary.proofs.Lowered.{lowers-sized, begin-small, lowering-seeks, last-below, last-above}
+use Rattle.boundary.proofs.Lowered.{lowers-sized, lowering-begins, lowering-seeks, last-below, last-above}
 use Rattle.boundary.proofs.Lowered.{step-small, total-small, lowering-on, lowers-past, lowering-end}
 use Rattle.boundary.proofs.Missing.{moved-length}
 use Rattle.boundary.proofs.lowering.lower_all.Statement.{statement}
@@ -48,21 +48,19 @@ is : (c : tie.After-response-from Inv-loop μ-loop) → let l = tested c .before
 is c = rw (c .before .deadline-at .ensures) at (c .response-from .ensures)
 
 own-demand-requires : tie.Need-own-demand-requires Inv-loop μ-loop
-own-demand-requires c κs = let p = c .before .before .before .pre .0 in omega (arith, lowers-sized p, p .given .some)
+own-demand-requires c κs =
+    let p = c .before .before .before .pre .0 in (p .given .valid, omega (arith, lowers-sized p, p .given .some))
 
 loop-holds : tie.Need-loop-holds Inv-loop μ-loop
 loop-holds c = let p = c .before .before .before .before .pre in (refl, lowering-start (p .0) (c .own-demand .ensures) (p .1))
 
-add-begin : tie.Need-add-begin Inv-loop μ-loop
-add-begin c =
-    let b = c .before .before in
-    let h = begin-small (b .before .loop .inv .1) (inside b) (c .own-demand2 .ensures) in
-    search needs
+begin-at-requires : tie.Need-begin-at-requires Inv-loop μ-loop
+begin-at-requires c κs = let b = c .before in lowering-begins (b .before .loop .inv .1) (inside b)
 
 response-from-requires : tie.Need-response-from-requires Inv-loop μ-loop
 response-from-requires c κs =
     let b = c .before .before .before .before in
-    rw (c .deadline-at .ensures, c .before .before .own-demand2 .ensures) (lowering-climbs (b .before .loop .inv .1) (inside b))
+    rw (c .deadline-at .ensures, c .before .before .begin-at .ensures) (lowering-climbs (b .before .loop .inv .1) (inside b))
 
 last-miss-from-requires : tie.Need-last-miss-from-requires Inv-loop μ-loop
 last-miss-from-requires c κs =
@@ -147,7 +145,7 @@ lower-all-spec =
     tie.close
     (tie.spec Inv-loop μ-loop
     (λ c. let p = c .before .before .before .pre .0 in omega (arith, lowers-sized p, p .given .some)) own-demand-requires loop-holds
-    (λ c. let l = inside c in search needs) (λ c. let l = inside (c .before) in search needs) (λ c κs. of-tasks (c .before)) add-begin
+    (λ c. let l = inside c in search needs) (λ c. let l = inside (c .before) in search needs) begin-at-requires
     (λ c κs. of-tasks (c .before .before .before)) response-from-requires
     (λ c. let l = inside (tested (c .before)) in search needs)
     (λ c. let b = tested (c .before .before) in lowering-node (b .before .loop .inv .1) (inside b))

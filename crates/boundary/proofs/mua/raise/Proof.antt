@@ -19,7 +19,7 @@ own-demand-requires : tie.Need-own-demand-requires
 own-demand-requires c κs =
     let s = start (c .before) in
     let r = s .pre .range in
-    omega (arith, r .inside, r .limits .sized, length-set (s .args .u .now) (s .args .i) (s .args .most))
+    (r .limits .valid, omega (arith, r .inside, r .limits .sized, length-set (s .args .u .now) (s .args .i) (s .args .most)))
 
 -- from the search for the last miss back to the lowest task's own demand and to the response time
 abbrev sought : tie.After-last-miss-from → tie.After-own-demand
