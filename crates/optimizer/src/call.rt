@@ -2,7 +2,7 @@ ghost use mathlib.Core.Path.{_≡_};
 ghost use Prim.Native.Nat.{_≤_};
 ghost use lib.ListN.{length};
 ghost use Rattle.plan.specs.Faults.{firstFrom};
-ghost use Rattle.plan.specs.Tasks.{maxTasks, weights};
+ghost use Rattle.plan.specs.Tasks.{maxTasks, AllValid, weights};
 ghost use Rattle.plan.specs.Table.{tasksIn};
 ghost use Rattle.plan.specs.Promises.{planTasks, Usable};
 ghost use Rattle.optimizer.specs.Search.{incumbentSearch};
@@ -20,7 +20,7 @@ use response::own_demand;
 
 // Rule 31: the first task whose own demand exceeds its deadline at its longest period.
 fn alone_fault(tasks: &[u32]) -> Fault
-    requires { ⌜ length (tasksIn (now tasks)) ≤ maxTasks ⌝ }
+    requires { ⌜ AllValid (tasksIn (now tasks)) × (length (tasksIn (now tasks)) ≤ maxTasks) ⌝ }
     ensures { λ r. ⌜ (let ts = tasksIn (now (tasks .entry)) in r ≡ firstFrom (aloneFault ts) (length ts) 0) ⌝ }
 {
     let n = plan::task_count(tasks);
