@@ -26,10 +26,13 @@ workFault ts work = faultIf (ltb work (length ts)) 24 0
 unfoldable pub callFault : Fault → List Task → ℕ → ℕ → Fault
 callFault f ts space work = firstFault (f ∷ spaceFault ts space ∷ workFault ts work ∷ [])
 
--- "31 'lone': C above the smaller of hi and cap. Place: first such job.": its deadline at its longest period
+-- "31 'lone': C above the smaller of hi and cap. Place: first such job."; "Hold is added .. in the lone rule": its own
+-- demand above its deadline at its longest period
+abbrev pub infeasibleAlone : Task → Bool
+infeasibleAlone t = ltb (deadline t (t .«period_max»)) (ownDemand t)
+
 abbrev pub aloneFault : List Task → ℕ → Fault
-aloneFault ts i =
-    let t = taskAt ts i in faultIf (ltb (deadline t (t .«period_max»)) (ownDemand t)) 31 (suc i)
+aloneFault ts i = faultIf (infeasibleAlone (taskAt ts i)) 31 (suc i)
 
 -- "32 'none': the point of all high bounds is not on time. Place: its first late job."
 abbrev pub noneFault : List Task → Fault

@@ -1,13 +1,13 @@
 ghost use mathlib.Core.Path.{_≡_};
-ghost use Prim.Native.Nat.{_≤_};
+ghost use Prim.Native.Nat.{_≤_, _<_};
 ghost use lib.ListN.{length};
 ghost use Rattle.plan.specs.Faults.{firstFrom};
-ghost use Rattle.plan.specs.Tasks.{maxTasks, AllValid, weights};
+ghost use Rattle.plan.specs.Tasks.{maxTasks, taskAt, AllValid, weights};
 ghost use Rattle.plan.specs.Table.{tasksIn};
 ghost use Rattle.plan.specs.Promises.{planTasks, Usable};
 ghost use Rattle.optimizer.specs.Search.{incumbentSearch};
 ghost use Rattle.optimizer.specs.Inner.{Concludes, endedBy, Leaves};
-ghost use Rattle.optimizer.specs.Promises.{aloneFault, roomOf, concluded, called};
+ghost use Rattle.optimizer.specs.Promises.{infeasibleAlone, aloneFault, roomOf, concluded, called};
 use super::answer::Answer;
 use super::nodes::clear;
 use super::search::search;
@@ -18,7 +18,15 @@ use response::deadline_at;
 use response::first_unschedulable;
 use response::own_demand;
 
-// Rule 31: the first task whose own demand exceeds its deadline at its longest period.
+// Whether a task's own demand exceeds its deadline at its longest period.
+fn infeasible_alone(tasks: &[u32], i: usize) -> bool
+    requires { ⌜ AllValid (tasksIn (now tasks)) × (i < length (tasksIn (now tasks))) ⌝ }
+    ensures { λ r. ⌜ r ≡ infeasibleAlone (taskAt (tasksIn (now (tasks .entry))) i) ⌝ }
+{
+    deadline_at(tasks, i, plan::period_max(tasks, i)) < own_demand(tasks, i)
+}
+
+// Rule 31: the first such task.
 fn alone_fault(tasks: &[u32]) -> Fault
     requires { ⌜ AllValid (tasksIn (now tasks)) × (length (tasksIn (now tasks)) ≤ maxTasks) ⌝ }
     ensures { λ r. ⌜ (let ts = tasksIn (now (tasks .entry)) in r ≡ firstFrom (aloneFault ts) (length ts) 0) ⌝ }
@@ -26,7 +34,7 @@ fn alone_fault(tasks: &[u32]) -> Fault
     let n = plan::task_count(tasks);
     let mut i: usize = 0;
     while i < n {
-        if deadline_at(tasks, i, plan::period_max(tasks, i)) < own_demand(tasks, i) {
+        if infeasible_alone(tasks, i) {
             return Fault {
                 number: 31,
                 place: (i + 1) as u32,

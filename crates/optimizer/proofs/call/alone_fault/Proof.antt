@@ -2,7 +2,6 @@ use mathlib.Core.Path.{_≡_, sym, _∙_}
 use mathlib.Core.List.{List}
 use Prim.Native.Nat.{_-_}
 use borrow.Author.Needs.{needs}
-use borrow.Author.Tests.{lt-ltb, le-ltb}
 use native.Mathlib.Omega.{arith}
 use lib.ListN.{length}
 use Rattle.plan.specs.declared.record.Task.{Task}
@@ -19,9 +18,6 @@ Inv-loop tasks n i₀ i = let ts = tasksIn tasks in firstFrom (aloneFault ts) (l
 abbrev μ-loop : tie.MeasureT-loop
 μ-loop tasks n i₀ i = n - i
 
-abbrev head : tie.After-own-demand Inv-loop μ-loop → tie.At-loop Inv-loop μ-loop
-head c = c .before .before .before .before
-
 abbrev given : tie.At-loop Inv-loop μ-loop → List Task
 given l = tasksIn (l .before .before .before .args .tasks .now)
 
@@ -30,19 +26,15 @@ loop-holds c = let e : c .task-count .result - 0 ≡ length (tasksIn (c .before 
 
 returns : tie.Need-returns Inv-loop μ-loop
 returns c =
-    let o = c .before in
-    let d = o .before in
-    let l = head o in
-    let h = rw (o .own-demand .ensures, d .deadline-at .ensures, d .before .period-max .ensures) at (c .if1 .taken) in
-    sym (l .loop .inv ∙ run-task (aloneFault (given l)) _ (l .loop .i) 30 (omega arith) (rw (lt-ltb _ _ h)))
+    let alone = c .before .infeasible-alone .ensures in
+    let l = c .before .before .before in
+    sym (l .loop .inv ∙ run-task (aloneFault (given l)) _ (l .loop .i) 30 (omega arith) (rw (sym alone ∙ c .if1 .taken)))
 
 loop-again : tie.Need-loop-again Inv-loop μ-loop
 loop-again c =
-    let o = c .before in
-    let d = o .before in
-    let l = head o in
-    let h = rw (o .own-demand .ensures, d .deadline-at .ensures, d .before .period-max .ensures) at (c .if1 .left) in
-    l .loop .inv ∙ run-next (aloneFault (given l)) _ (l .loop .i) (omega arith) (rw (le-ltb _ _ h))
+    let alone = c .before .infeasible-alone .ensures in
+    let l = c .before .before .before in
+    l .loop .inv ∙ run-next (aloneFault (given l)) _ (l .loop .i) (omega arith) (rw (sym alone ∙ c .if1 .left))
 
 returns-2 : tie.Need-returns-2 Inv-loop μ-loop
 returns-2 c =
@@ -52,6 +44,5 @@ returns-2 c =
 pub alone-fault-spec : {M : Type 1} → statement M
 alone-fault-spec =
     tie.close
-    (tie.spec Inv-loop μ-loop (λ c κs. search needs) loop-holds (λ c κs. search needs) (λ c κs. search needs)
-    (λ c κs. search needs) (λ c. search needs) (λ c. search needs) returns (λ c. search needs) (λ c. search needs)
-    loop-again (λ c κs. search needs) returns-2)
+    (tie.spec Inv-loop μ-loop (λ c κs. search needs) loop-holds (λ c κs. search needs) (λ c. search needs)
+    (λ c. search needs) returns (λ c. search needs) (λ c. search needs) loop-again (λ c κs. search needs) returns-2)
