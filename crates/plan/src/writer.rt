@@ -120,7 +120,7 @@ fn put_names(out: &mut [u8], at: usize, file: &[u8], names: usize, tasks: usize)
 
 // The canonical form of an accepted file's tasks and of its names, which begin at an offset of it, into a space of just
 // its length.
-fn write_form(file: &[u8], names: usize, tasks: &[u32], out: &mut [u8]) -> Written
+fn form_of(file: &[u8], names: usize, tasks: &[u32], out: &mut [u8]) -> Written
     requires { ⌜ HasPlan (now file) names (tasksIn (now tasks)) ⌝ }
     ensures { λ r. ⌜ Writes (now (file .entry)) (now (out .entry)) (now (out .exit)) r ⌝ }
 {
@@ -156,7 +156,7 @@ pub fn write_plan(file: &[u8], out: &mut [u8]) -> Written
         return Written { fault, size: 0 };
     }
     let table = loaded.plan.table;
-    write_form(
+    form_of(
         file,
         loaded.names,
         &table[..Plan::ROW_FIELDS * loaded.plan.tasks],

@@ -19,13 +19,13 @@ array-share-prefix-table c =
     let load = loaded (c .before .before) .load-plan in
     usable-table (load .result) (load .ensures .1) .1
 
-slice-aggregate-write-form : tie.Need-slice-aggregate-write-form
-slice-aggregate-write-form c =
+slice-aggregate-form-of : tie.Need-slice-aggregate-form-of
+slice-aggregate-form-of c =
     let load = loaded (c .before .before .before) .load-plan in
     sym (usable-table (load .result) (load .ensures .1) .0)
 
-write-form-requires : tie.Need-write-form-requires
-write-form-requires c κs =
+form-of-requires : tie.Need-form-of-requires
+form-of-requires c κs =
     let e = c .before .before .before .before in
     let load = loaded e .load-plan in
     has-plan _ (load .result) (load .ensures) (e .if1 .left)
@@ -33,5 +33,5 @@ write-form-requires c κs =
 pub write-plan-spec : {M : Type 1} → statement M
 write-plan-spec =
     tie.close
-    (tie.spec (λ c κs. search needs) returns (λ c. search needs) array-share-prefix-table slice-aggregate-write-form
-    write-form-requires (λ c. search needs) (λ c. search needs))
+    (tie.spec (λ c κs. search needs) returns (λ c. search needs) array-share-prefix-table slice-aggregate-form-of
+    form-of-requires (λ c. search needs) (λ c. search needs))

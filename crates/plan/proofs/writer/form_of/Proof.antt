@@ -3,8 +3,8 @@ use native.Mathlib.Omega.{arith}
 use Prim.Native.Nat.{_≤_}
 use Rattle.plan.specs.Tasks.{maxTasks}
 use Rattle.plan.proofs.Writing.{plan-few, has-rows, has-names, writes-nothing, writes-form}
-use Rattle.plan.proofs.writer.write_form.Statement.{statement}
-use Rattle.plan.proofs.writer.write_form.Tie as tie
+use Rattle.plan.proofs.writer.form_of.Statement.{statement}
+use Rattle.plan.proofs.writer.form_of.Tie as tie
 
 -- the places that the needs look back to
 abbrev start : tie.After-task-count → tie.Start
@@ -69,8 +69,8 @@ returns-2 c =
     (r .rows-size .ensures .0) _ (e .if1 .left) (headed (rows .before) .put-header .ensures) (rows .put-rows .ensures)
     (names .put-names .ensures))
 
-pub write-form-spec : {M : Type 1} → statement M
-write-form-spec =
+pub form-of-spec : {M : Type 1} → statement M
+form-of-spec =
     tie.close
     (tie.spec (λ c κs. search needs) (λ c κs. search needs) rows-size-requires (λ c. search needs) mul-size add-size
     returns (λ c κs. search needs) put-rows-requires put-names-requires (λ c κs. search needs) (λ c. search needs)
