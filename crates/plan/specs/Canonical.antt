@@ -29,7 +29,8 @@ nameBytes name = name ++ replicate (nameWidth - length name) 0
 
 -- the version, n tasks, their rows at 16, their names, and the total length
 unfoldable pub headerBytes : ℕ → ℕ → ℕ → ℕ → List ℕ
-headerBytes version n names total = bytesOf 2 version ++ (bytesOf 2 n ++ wordsOf (headerWidth ∷ names ∷ total ∷ []))
+headerBytes version n names total =
+    bytesOf 2 version ++ (bytesOf 2 n ++ wordsOf (headerWidth ∷ names ∷ total ∷ []))
 
 -- the two areas
 abbrev pub rowsBytes : ℕ → List Task → List ℕ

@@ -1,5 +1,5 @@
--- The plan file (docs/FORMAT.md): layout, tasks and their limits, names, refusals, the canonical form, and what the calls
--- promise.
+-- The plan file (docs/FORMAT.md): layout, tasks and their limits, names, refusals, the canonical form, and what the
+-- calls promise.
 pub mod Lists
 pub mod Faults
 pub mod Words

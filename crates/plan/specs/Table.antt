@@ -10,7 +10,8 @@ rowFields = 7
 
 abbrev pub rowOf : Task → List ℕ
 rowOf t =
-    t .wcet ∷ t .«period_min» ∷ t .«period_max» ∷ t .«deadline_cap» ∷ t .weight ∷ t .blocking ∷ t .jitter ∷ []
+    t .wcet ∷ t .«period_min» ∷ t .«period_max» ∷ t .«deadline_cap» ∷ t .weight
+    ∷ t .blocking ∷ t .jitter ∷ []
 
 abbrev pub fieldOf : Task → ℕ → ℕ
 fieldOf t k = getD (rowOf t) k 0
