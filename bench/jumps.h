@@ -40,14 +40,24 @@ static struct miss last_miss(const struct plan *plan, uint32_t *periods, uint32_
     return (struct miss){low, start};
 }
 
+/* Whether task k's demand is at least that of task j, above it, by every time: all but
+ * j's blocking is part of it, and k's own demand has to make up for that. */
+static int is_covered(const struct plan *plan, uint32_t j, uint32_t k)
+{
+    return plan->blocking[j] <= plan->own_demand[k];
+}
+
 /* The same of the tasks between task i and task k, whose own is `known`: it settles
- * every task whose deadline is not before its response time. */
+ * every task whose demand k's covers and whose deadline is not before k's response
+ * time. */
 static uint32_t last_miss_between(const struct plan *plan, uint32_t *periods, uint32_t i, uint32_t k,
                                   struct miss known)
 {
     for (uint32_t j = k - 1; j > i; j--)
-        if (deadline_at(plan, j, periods[j]) < known.response)
-            known = last_miss(plan, periods, i, j, known.last, plan->wcet[j]);
+        if (deadline_at(plan, j, periods[j]) < known.response || !is_covered(plan, j, k)) {
+            known = last_miss(plan, periods, i, j, known.last, plan->own_demand[j]);
+            k = j;
+        }
     return known.last;
 }
 
@@ -82,7 +92,7 @@ static int raise_one(const struct plan *plan, uint32_t *periods, uint32_t i)
     uint32_t own = response_time(plan, periods, i);
     if (own == 0)
         return 0;
-    periods[i] = last_miss_from(plan, periods, i, own, least, plan->wcet[plan->n - 1]).last;
+    periods[i] = last_miss_from(plan, periods, i, own, least, plan->own_demand[plan->n - 1]).last;
     return own <= periods[i];
 }
 

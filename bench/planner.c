@@ -8,13 +8,18 @@
 
 enum { TASKS_MAX = 16, WORK_LENGTH = 16000, TICK_MAX = 1000000, WEIGHT_MAX = 1000 };
 
+/* Bytes of a row in version 1 and in version 2. */
+enum { ROW_1 = 20, ROW_2 = 28 };
+
 struct plan {
     uint32_t n;
     uint32_t wcet[TASKS_MAX];
+    uint32_t own_demand[TASKS_MAX]; /* wcet + blocking */
     uint32_t period_min[TASKS_MAX];
     uint32_t period_max[TASKS_MAX];
     uint32_t deadline_cap[TASKS_MAX];
     uint32_t weight[TASKS_MAX];
+    uint32_t blocking[TASKS_MAX];
 };
 
 struct outcome {
@@ -62,19 +67,40 @@ static uint32_t refuse(uint32_t number, uint32_t place, uint32_t *where)
     return number;
 }
 
+/* 0 for an unknown version. */
+static uint32_t row_width(uint32_t version) { return version == 1 ? ROW_1 : version == 2 ? ROW_2 : 0; }
+
+/* Row i into the plan; 0 if a field is outside its limits. Jitter has no effect yet. */
+static int read_row(const uint8_t *row, uint32_t width, struct plan *plan, uint32_t i)
+{
+    uint32_t jitter = width == ROW_2 ? u32_at(row + 24) : 0;
+
+    plan->wcet[i] = u32_at(row);
+    plan->period_min[i] = u32_at(row + 4);
+    plan->period_max[i] = u32_at(row + 8);
+    plan->deadline_cap[i] = u32_at(row + 12);
+    plan->weight[i] = u32_at(row + 16);
+    plan->blocking[i] = width == ROW_2 ? u32_at(row + 20) : 0;
+    plan->own_demand[i] = plan->wcet[i] + plan->blocking[i];
+    return is_tick(plan->wcet[i]) && is_tick(plan->period_min[i]) && is_tick(plan->period_max[i]) &&
+           is_tick(plan->deadline_cap[i]) && plan->weight[i] <= WEIGHT_MAX && plan->blocking[i] <= TICK_MAX &&
+           jitter <= TICK_MAX;
+}
+
 /* 0, or the number of the first broken rule with its place. */
 static uint32_t read_plan(const uint8_t *file, size_t length, struct plan *plan, uint32_t *place)
 {
     if (length < 16 || length > 2048)
         return refuse(1, 0, place);
-    if (u16_at(file) != 1)
+    uint32_t width = row_width(u16_at(file));
+    if (width == 0)
         return refuse(2, 0, place);
     uint32_t n = u16_at(file + 2);
     if (n < 1 || n > TASKS_MAX)
         return refuse(3, 0, place);
     if (u32_at(file + 12) != length)
         return refuse(4, 0, place);
-    uint64_t rows = u32_at(file + 4), rows_end = rows + 20 * n;
+    uint64_t rows = u32_at(file + 4), rows_end = rows + width * n;
     uint64_t names = u32_at(file + 8), names_end = names + 16 * n;
     if (rows < 16 || rows_end > length)
         return refuse(5, 1, place);
@@ -87,14 +113,7 @@ static uint32_t read_plan(const uint8_t *file, size_t length, struct plan *plan,
             return refuse(7, at, place);
     plan->n = n;
     for (uint32_t i = 0; i < n; i++) {
-        const uint8_t *row = file + rows + 20 * i;
-        plan->wcet[i] = u32_at(row);
-        plan->period_min[i] = u32_at(row + 4);
-        plan->period_max[i] = u32_at(row + 8);
-        plan->deadline_cap[i] = u32_at(row + 12);
-        plan->weight[i] = u32_at(row + 16);
-        if (!is_tick(plan->wcet[i]) || !is_tick(plan->period_min[i]) || !is_tick(plan->period_max[i]) ||
-            !is_tick(plan->deadline_cap[i]) || plan->weight[i] > WEIGHT_MAX)
+        if (!read_row(file + rows + width * i, width, plan, i))
             return refuse(8, i + 1, place);
         if (plan->period_min[i] > plan->period_max[i])
             return refuse(9, i + 1, place);
@@ -125,7 +144,7 @@ static uint32_t response_from(const struct plan *plan, const uint32_t *periods, 
     uint32_t t = start;
 
     while (t <= limit) {
-        uint64_t demand = plan->wcet[k];
+        uint64_t demand = plan->own_demand[k];
         for (uint32_t j = 0; j < k; j++)
             demand += (uint64_t)plan->wcet[j] * rounded_up(t, periods[j]);
         if (demand <= t)
@@ -140,7 +159,7 @@ static uint32_t response_from(const struct plan *plan, const uint32_t *periods, 
 /* The response time, 0 where the task misses its deadline. */
 static uint32_t response_time(const struct plan *plan, const uint32_t *periods, uint32_t k)
 {
-    return response_from(plan, periods, k, deadline_at(plan, k, periods[k]), plan->wcet[k]);
+    return response_from(plan, periods, k, deadline_at(plan, k, periods[k]), plan->own_demand[k]);
 }
 
 /* The first task that misses its deadline, or n. */
@@ -288,7 +307,7 @@ static void search(const struct plan *plan, uint64_t budget, struct outcome *out
     uint32_t n = plan->n;
 
     for (uint32_t i = 0; i < n; i++)
-        if (plan->wcet[i] > plan->period_max[i] || plan->wcet[i] > plan->deadline_cap[i]) {
+        if (plan->own_demand[i] > deadline_at(plan, i, plan->period_max[i])) {
             outcome->number = refuse(31, i + 1, &outcome->place);
             return;
         }
