@@ -27,7 +27,7 @@ enum desk_number {
 
     /* The file is refused; n is 0. */
     DESK_FILE_SIZE = 1,     /* length below 16 or above 2,048; place 0 */
-    DESK_VERSION = 2,       /* version not 1; place 0 */
+    DESK_VERSION = 2,       /* version neither 1 nor 2; place 0 */
     DESK_TASK_COUNT = 3,    /* n not 1 to 16; place 0 */
     DESK_TOTAL = 4,         /* total differs from the file's length; place 0 */
     DESK_AREA = 5,          /* an area before byte 16 or past the total; place 1 rows, 2 names */
@@ -42,7 +42,7 @@ enum desk_number {
     DESK_BLOCK_SIZE = 25,   /* block_len is not 100; tested before the file, nothing written */
 
     /* No periods within the bounds are schedulable. */
-    DESK_LONE = 31,         /* work above the greatest period or the cap; place: first such task */
+    DESK_LONE = 31,         /* work and hold above the greatest period or the cap; place: first such task */
     DESK_NONE = 32,         /* late even at all greatest periods; place: first late task */
 
     /* Stopped: no schedulable periods cost less than the bound. Place 0. */
