@@ -1,18 +1,19 @@
 //! compare [SEED]: calls desk_call, and best_call with BEST in CHEAPEST's place, on
-//! many plan files, sound and damaged, and holds each block byte for byte to
-//! model.rs, and the two to each other.
-//! Small plans are also solved by trying every assignment. One seed always
-//! gives the same files. Exit status 0 when all agree and every number came.
+//! many plan files of both versions, sound and damaged, and holds each block byte for
+//! byte to model.rs, and the two to each other.
+//! Small plans are also solved by trying every assignment. One seed always gives the
+//! same files. Exit status 0 when all agree and every number came in both versions.
 
 // The other checks use the rest.
 #[allow(dead_code)]
 mod model;
 mod plans;
 
-use model::{Node, Outcome, Outcomes, Task};
+use model::{Node, Outcome, Outcomes, Task, TICK_MAX};
 use plans::{
-    damaged_file, dearest_plan, encode, extreme_plan, infeasible_plan, loaded_plan, named, put, random_plan,
-    small_plan, sound_file, tight, Layout, Random, FILE_MAX,
+    blocked_plan, damaged_file, dearest_plan, encode, extreme_plan, filled, held, infeasible_plan, jitter_some,
+    latest_plan, loaded_plan, named, put, random_plan, small_plan, sound_file, tight, version_traps, Layout, Random,
+    FILE_MAX,
 };
 use std::collections::BTreeSet;
 use std::process::exit;
@@ -86,7 +87,9 @@ fn shared_alike(one: &[u8], other: &[u8]) -> bool {
 
 // Comparison.
 
+/// The files that were made in one version.
 struct Comparison {
+    version: u64,
     seed: u64,
     files: u64,
     calls: u64,
@@ -99,8 +102,12 @@ fn hex(bytes: &[u8]) -> String {
 }
 
 impl Comparison {
+    fn new(version: u64, seed: u64) -> Comparison {
+        Comparison { version, seed, files: 0, calls: 0, times: [0; 35], places: vec![BTreeSet::new(); 35] }
+    }
+
     fn fail(&self, what: &str, file: &[u8], budget: u64, outcome: &Outcome, block: &[u8]) -> ! {
-        println!("compare: {what} (seed {}, call {})", self.seed, self.calls);
+        println!("compare: {what} (version {}, seed {}, call {})", self.version, self.seed, self.calls);
         println!("file of {} bytes, budget {budget}: {}", file.len(), hex(file));
         println!("model: {outcome:?}");
         println!("block:  {}", hex(block));
@@ -125,7 +132,7 @@ impl Comparison {
 
     /// Both calls, against each other and against the model; returns what the
     /// model says.
-    fn check(&mut self, random: &mut Random, file: &[u8], budget: u64) -> Outcomes {
+    fn call(&mut self, random: &mut Random, file: &[u8], budget: u64) -> Outcomes {
         let outcomes = model::desk(file, budget);
         let old = [random.next() as u8; BLOCK];
         let desk = make(desk_call, random, file, &old, budget);
@@ -136,6 +143,12 @@ impl Comparison {
         }
         self.hold(&desk, file, budget, &outcomes.cheapest);
         self.hold(&best, file, budget, &outcomes.best);
+        outcomes
+    }
+
+    /// The same, counted.
+    fn check(&mut self, random: &mut Random, file: &[u8], budget: u64) -> Outcomes {
+        let outcomes = self.call(random, file, budget);
         let Outcome { number, place, .. } = outcomes.cheapest;
         self.times[number as usize] += 1;
         self.places[number as usize].insert(place);
@@ -249,10 +262,15 @@ fn demands_hold(
         }
 }
 
-fn small_plans(comparison: &mut Comparison, random: &mut Random, count: u64) {
+fn small_plans(
+    comparison: &mut Comparison,
+    random: &mut Random,
+    count: u64,
+    plan: impl Fn(&mut Random) -> Vec<Task>,
+) {
     for _ in 0..count {
-        let tasks = small_plan(random);
-        let file = sound_file(random, &tasks);
+        let tasks = plan(random);
+        let file = sound_file(random, comparison.version, &tasks);
         let (least, assignments) = by_trying_all(&tasks);
         comparison.files += 1;
         for budget in
@@ -279,7 +297,7 @@ fn small_plans(comparison: &mut Comparison, random: &mut Random, count: u64) {
 
 fn damaged_files(comparison: &mut Comparison, random: &mut Random, count: u64) {
     for _ in 0..count {
-        let file = damaged_file(random);
+        let file = damaged_file(random, comparison.version);
         let budget = random.of(&[0, 1, 2, 5]);
         comparison.file(random, &file, &[budget]);
         if random.chance(200) {
@@ -298,9 +316,34 @@ fn sound_plans(
 ) {
     for _ in 0..count {
         let tasks = plan(random);
-        let file = sound_file(random, &tasks);
+        let file = sound_file(random, comparison.version, &tasks);
         let budgets = budgets(random);
         comparison.file(random, &file, &budgets);
+    }
+}
+
+/// In version 2, without blocking and whatever the jitter, a plan is answered as in
+/// version 1.
+fn same_answers(
+    comparison: &mut Comparison,
+    random: &mut Random,
+    count: u64,
+    plan: impl Fn(&mut Random) -> Vec<Task>,
+) {
+    for _ in 0..count {
+        let mut tasks = plan(random);
+        let budget = random.within(0, 12);
+        let plain = sound_file(random, 1, &tasks);
+        let wanted = comparison.call(random, &plain, budget);
+        if random.chance(2) {
+            jitter_some(random, &mut tasks);
+        }
+        let file = sound_file(random, 2, &tasks);
+        comparison.files += 1;
+        let outcomes = comparison.check(random, &file, budget);
+        if outcomes != wanted {
+            comparison.fail("not as in version 1", &file, budget, &outcomes.best, &[]);
+        }
     }
 }
 
@@ -332,6 +375,14 @@ fn examples() {
     assert_eq!(times(&s, &[105, 140, 210, 280, 420, 839]), [20, 50, 90, 190, 410, 0]);
     let full = named(&[(2, 1, 10, 1_000, 1), (3, 1, 10, 1_000, 1)]);
     assert_eq!(times(&full, &[4, 6]), [2, 0]);
+    // The gauge's blocking is in its own time only, jitter in none.
+    let gauge_blocked = filled(plan_p(), &[(2, 9), (0, 9)]);
+    assert_eq!(times(&gauge_blocked, &[3, 3]), [3, 3]);
+    assert_eq!(times(&gauge_blocked, &[2, 4]), [0, 4]);
+    let radio_blocked = filled(plan_p(), &[(0, 0), (1, 0)]);
+    assert_eq!(times(&radio_blocked, &[2, 6]), [1, 6]);
+    assert_eq!(times(&radio_blocked, &[2, 5]), [1, 0]);
+    assert_eq!(times(&radio_blocked, &[4, 4]), [1, 4]);
 
     let says =
         |tasks: &[Task], budget: u64, space: u64, number: u32, place: u32, numbers: [u64; 3], periods: &[u64]| {
@@ -360,12 +411,23 @@ fn examples() {
     says(&named(&[(1, 1, 1, 1_000, 1), (2, 1, 8, 1_000, 1)]), 100, ample, 32, 2, [0, 0, 0], &[]);
     says(&named(&[(5, 3, 10, 1_000, 1)]), 100, ample, 0, 0, [5, 2, 0], &[5]);
     says(&named(&[(5, 3, 10, 4, 1)]), 100, ample, 31, 1, [0, 0, 0], &[]);
+    says(&gauge_blocked, 100, ample, 0, 0, [6, 3, 0], &[3, 3]);
+    // (3, 5) and (4, 4) cost as much and come later.
+    says(&radio_blocked, 100, ample, 0, 0, [8, 5, 0], &[2, 6]);
+    let single = |cap: u64, blocking: u64| filled(named(&[(5, 3, 10, cap, 1)]), &[(blocking, TICK_MAX)]);
+    says(&single(1_000, 5), 100, ample, 0, 0, [10, 2, 0], &[10]);
+    says(&single(1_000, 6), 100, ample, 31, 1, [0, 0, 0], &[]);
+    says(&single(7, 2), 100, ample, 0, 0, [7, 2, 0], &[7]);
+    says(&single(7, 3), 100, ample, 31, 1, [0, 0, 0], &[]);
+    says(&filled(plan_p(), &[(0, 0), (4, 0)]), 100, ample, 0, 0, [12, 3, 0], &[4, 8]);
+    says(&filled(plan_p(), &[(0, 0), (6, 0)]), 100, ample, 32, 2, [0, 0, 0], &[]);
+    says(&filled(plan_p(), &[(0, 0), (7, 0)]), 100, ample, 31, 2, [0, 0, 0], &[]);
 }
 
 /// Plans made by hand: plan S, which must stop with 34, a late incumbent, the
 /// dearest answer (16,000,000,000) and the smallest and longest files.
 fn chosen_files(comparison: &mut Comparison, random: &mut Random) {
-    let s = encode(&plan_s(), &tight(6));
+    let s = encode(&plan_s(), &tight(1, 6));
     comparison.files += 1;
     let outcome = comparison.check(random, &s, u64::MAX).cheapest;
     if (outcome.number, outcome.bound, outcome.rounds) != (34, 1_448, 13_870) {
@@ -376,7 +438,7 @@ fn chosen_files(comparison: &mut Comparison, random: &mut Random) {
 
     // Here that round still improves the incumbent.
     let weights = [13, 20, 37, 40, 50, 57, 60, 61, 71, 86, 87, 98, 100];
-    let late = encode(&named(&weights.map(|weight| (1, 10, 39, 1_000, weight))), &tight(weights.len()));
+    let late = encode(&named(&weights.map(|weight| (1, 10, 39, 1_000, weight))), &tight(1, weights.len()));
     comparison.files += 1;
     let full = comparison.check(random, &late, u64::MAX).best;
     let before = comparison.check(random, &late, full.rounds - 1).best;
@@ -384,12 +446,12 @@ fn chosen_files(comparison: &mut Comparison, random: &mut Random) {
         comparison.fail("the last round's incumbent", &late, u64::MAX, &full, &[]);
     }
 
-    let p = encode(&plan_p(), &tight(2));
+    let p = encode(&plan_p(), &tight(1, 2));
     comparison.file(random, &p, &[0, 1, 2, 3, 4, 5, 100_000, 1 << 32, (1 << 32) + 3, 1 << 63, u64::MAX]);
     comparison.check_lengths(random, &p);
 
     let dearest = dearest_plan();
-    let file = encode(&dearest, &Layout { rows: 16, names: FILE_MAX - 256, total: FILE_MAX });
+    let file = encode(&dearest, &Layout { version: 1, rows: 16, names: FILE_MAX - 256, total: FILE_MAX });
     comparison.files += 1;
     let outcome = comparison.check(random, &file, 1).cheapest;
     if (outcome.number, outcome.cost, outcome.rounds) != (0, 16_000_000_000, 1) {
@@ -398,7 +460,7 @@ fn chosen_files(comparison: &mut Comparison, random: &mut Random) {
     comparison.file(random, &file, &[0, u64::MAX]);
     let mut free = dearest.clone();
     free.iter_mut().for_each(|task| task.period_min = 999_990);
-    comparison.file(random, &encode(&free, &tight(16)), &[0, 1, 50, u64::MAX]);
+    comparison.file(random, &encode(&free, &tight(1, 16)), &[0, 1, 50, u64::MAX]);
 
     for length in [0, 1, 15, 16, 17, 51, 52, 2_047, 2_048, 2_049, 70_000] {
         comparison.file(random, &vec![0; length], &[1]);
@@ -408,7 +470,7 @@ fn chosen_files(comparison: &mut Comparison, random: &mut Random) {
         comparison.file(random, &file[..length], &[1]);
     }
     // Every byte value in every place of a name, and every bit of a file flipped.
-    let one = encode(&named(&[(5, 3, 10, 1_000, 1)]), &Layout { rows: 17, names: 38, total: 55 });
+    let one = encode(&named(&[(5, 3, 10, 1_000, 1)]), &Layout { version: 1, rows: 17, names: 38, total: 55 });
     for at in 38..54 {
         for fill in [0, b'x'] {
             for byte in 0..=255 {
@@ -420,29 +482,82 @@ fn chosen_files(comparison: &mut Comparison, random: &mut Random) {
             }
         }
     }
-    for file in [&one, &p] {
-        for bit in 0..8 * file.len() {
-            let mut file = file.clone();
-            file[bit / 8] ^= 1 << bit % 8;
+    flipped_and_cut(comparison, random, &one);
+    flipped_and_cut(comparison, random, &p);
+}
+
+/// A file with each of its bits flipped and cut at each length, whatever its total says.
+fn flipped_and_cut(comparison: &mut Comparison, random: &mut Random, file: &[u8]) {
+    for bit in 0..8 * file.len() {
+        let mut file = file.to_vec();
+        file[bit / 8] ^= 1 << bit % 8;
+        comparison.file(random, &file, &[3]);
+    }
+    for length in 0..file.len() {
+        let mut file = file[..length].to_vec();
+        comparison.file(random, &file, &[3]);
+        if length >= 16 {
+            put(&mut file, 12, length as u64, 4);
             comparison.file(random, &file, &[3]);
-        }
-        for length in 0..file.len() {
-            let mut file = file[..length].to_vec();
-            comparison.file(random, &file, &[3]);
-            if length >= 16 {
-                put(&mut file, 12, length as u64, 4);
-                comparison.file(random, &file, &[3]);
-            }
         }
     }
+}
+
+/// Each task responds just at its deadline; by a tick more it is the one that is late.
+fn latest_responses(comparison: &mut Comparison, random: &mut Random) {
+    let says = |comparison: &mut Comparison, random: &mut Random, tasks: &[Task], number: u32, place: u32| {
+        let file = encode(tasks, &tight(2, 16));
+        comparison.files += 1;
+        let outcome = comparison.check(random, &file, 1).cheapest;
+        if (outcome.number, outcome.place) != (number, place) {
+            comparison.fail("the latest responses", &file, 1, &outcome, &[]);
+        }
+    };
+    let latest = latest_plan();
+    says(comparison, random, &latest, 0, 0);
+    for i in 0..16 {
+        let mut late = latest.clone();
+        late[i].blocking += 1;
+        says(comparison, random, &late, if i == 0 { 31 } else { 32 }, i as u32 + 1);
+    }
+}
+
+/// Files of version 2 made by hand: rows of either width under many version numbers, the
+/// two further fields about their limits, and responses at the last tick there is.
+fn chosen_files_2(comparison: &mut Comparison, random: &mut Random) {
+    for n in [1, 2, 16] {
+        let numbers = [0, 1, 2, 3, 256, 257, 258, 513, 0xffff];
+        for file in version_traps(n, &[0, 1, 8 * n - 1, 8 * n], &numbers) {
+            comparison.file(random, &file, &[2]);
+        }
+    }
+
+    let wide = encode(&named(&[(1, 1_000, TICK_MAX, TICK_MAX, 1); 16]), &tight(2, 16));
+    for at in (0..16).flat_map(|i| [20, 24].map(|field| 16 + 28 * i + field)) {
+        for value in [0, 1, TICK_MAX - 1, TICK_MAX, TICK_MAX + 1, 1 << 24, 1 << 31, 0xffff_ffff] {
+            let mut file = wide.clone();
+            put(&mut file, at, value, 4);
+            comparison.file(random, &file, &[0, 3]);
+        }
+    }
+
+    latest_responses(comparison, random);
+
+    let one = filled(named(&[(5, 3, 10, 1_000, 1)]), &[(3, 258)]);
+    let layout = Layout { version: 2, rows: 17, names: 46, total: 63 };
+    flipped_and_cut(comparison, random, &encode(&one, &layout));
+    let two = encode(&filled(plan_p(), &[(2, 0), (1, 65_536)]), &tight(2, 2));
+    flipped_and_cut(comparison, random, &two);
+    comparison.check_lengths(random, &two);
 }
 
 /// Every number came, and those with places in all the places they can have
 /// (32 never in place 1: that task alone would be 31).
 fn coverage(comparison: &Comparison) -> bool {
+    let version = comparison.version;
     let mut complete = true;
     for number in (0..=11).chain([25]).chain(31..=34) {
-        let places = &comparison.places[number];
+        let (times, places) = (comparison.times[number], &comparison.places[number]);
         let wanted: Vec<u32> = match number {
             5 => (1..=2).collect(),
             7 => vec![16, 2_047],
@@ -452,8 +567,8 @@ fn coverage(comparison: &Comparison) -> bool {
             _ => vec![0],
         };
         let missing = wanted.iter().filter(|place| !places.contains(place)).count();
-        println!("number {number:2}: {:7} times, {:4} places", comparison.times[number], places.len().max(1));
-        if comparison.times[number] == 0 || missing > 0 {
+        println!("version {version}, number {number:2}: {times:7} times, {:4} places", places.len().max(1));
+        if times == 0 || missing > 0 {
             println!("number {number} is missing, or {missing} of its places");
             complete = false;
         }
@@ -470,6 +585,52 @@ fn watch() {
     });
 }
 
+/// Long searches: answers and 33.
+fn long_plan(random: &mut Random) -> Vec<Task> {
+    let (n, percent) = (random.within(3, 12), random.within(80, 99));
+    loaded_plan(random, n, percent, false)
+}
+
+/// Mostly 34, in rooms of all sizes.
+fn overfull_plan(random: &mut Random) -> Vec<Task> {
+    let (n, percent) = (random.within(12, 16), random.within(60, 80));
+    loaded_plan(random, n, percent, true)
+}
+
+fn version_1(seed: u64, random: &mut Random) -> Comparison {
+    let mut comparison = Comparison::new(1, seed);
+    chosen_files(&mut comparison, random);
+    small_plans(&mut comparison, random, 40_000, small_plan);
+    damaged_files(&mut comparison, random, 150_000);
+    sound_plans(&mut comparison, random, 4_000, infeasible_plan, |random| vec![random.within(0, 1)]);
+    sound_plans(&mut comparison, random, 1_500, extreme_plan, |random| vec![random.within(0, 3)]);
+    sound_plans(&mut comparison, random, 4_000, random_plan, |random| {
+        vec![random.of(&[0, 1, 2]), random.within(3, 12)]
+    });
+    sound_plans(&mut comparison, random, 100, random_plan, |random| vec![random.within(50, 300)]);
+    sound_plans(&mut comparison, random, 100, long_plan, |random| vec![random.within(500, 1_500)]);
+    sound_plans(&mut comparison, random, 14, overfull_plan, |_| vec![u64::MAX]);
+    comparison
+}
+
+fn version_2(seed: u64, random: &mut Random) -> Comparison {
+    let mut comparison = Comparison::new(2, seed);
+    chosen_files_2(&mut comparison, random);
+    same_answers(&mut comparison, random, 2_000, small_plan);
+    same_answers(&mut comparison, random, 500, random_plan);
+    small_plans(&mut comparison, random, 40_000, held(small_plan));
+    damaged_files(&mut comparison, random, 75_000);
+    sound_plans(&mut comparison, random, 4_000, blocked_plan, |random| vec![random.within(0, 1)]);
+    sound_plans(&mut comparison, random, 1_500, held(extreme_plan), |random| vec![random.within(0, 3)]);
+    sound_plans(&mut comparison, random, 4_000, held(random_plan), |random| {
+        vec![random.of(&[0, 1, 2]), random.within(3, 12)]
+    });
+    sound_plans(&mut comparison, random, 100, held(random_plan), |random| vec![random.within(50, 300)]);
+    sound_plans(&mut comparison, random, 100, held(long_plan), |random| vec![random.within(500, 1_500)]);
+    sound_plans(&mut comparison, random, 14, held(overfull_plan), |_| vec![u64::MAX]);
+    comparison
+}
+
 fn main() {
     watch();
     let seed = match std::env::args().nth(1).map(|text| text.parse()) {
@@ -480,34 +641,17 @@ fn main() {
             exit(2);
         }
     };
-    let mut random = Random(seed);
-    let random = &mut random;
-    let mut comparison = Comparison { seed, files: 0, calls: 0, times: [0; 35], places: vec![BTreeSet::new(); 35] };
     examples();
-    chosen_files(&mut comparison, random);
-    small_plans(&mut comparison, random, 40_000);
-    damaged_files(&mut comparison, random, 150_000);
-    sound_plans(&mut comparison, random, 4_000, infeasible_plan, |random| vec![random.within(0, 1)]);
-    sound_plans(&mut comparison, random, 1_500, extreme_plan, |random| vec![random.within(0, 3)]);
-    let any = |random: &mut Random| {
-        let n = random.within(1, 16);
-        random_plan(random, n)
-    };
-    sound_plans(&mut comparison, random, 4_000, any, |random| vec![random.of(&[0, 1, 2]), random.within(3, 12)]);
-    sound_plans(&mut comparison, random, 100, any, |random| vec![random.within(50, 300)]);
-    // Long searches: answers and 33, then 34 in rooms of all sizes.
-    let loaded = |random: &mut Random| {
-        let (n, percent) = (random.within(3, 12), random.within(80, 99));
-        loaded_plan(random, n, percent, false)
-    };
-    sound_plans(&mut comparison, random, 100, loaded, |random| vec![random.within(500, 1_500)]);
-    let overfull = |random: &mut Random| {
-        let (n, percent) = (random.within(12, 16), random.within(60, 80));
-        loaded_plan(random, n, percent, true)
-    };
-    sound_plans(&mut comparison, random, 14, overfull, |_| vec![u64::MAX]);
-    let complete = coverage(&comparison);
-    println!("{} files, {} calls, seed {seed}: all as the model says", comparison.files, comparison.calls);
+    let mut random = Random(seed);
+    let one = version_1(seed, &mut random);
+    let two = version_2(seed, &mut random);
+    let complete = coverage(&one) & coverage(&two);
+    println!(
+        "{} files made in version 1, {} in version 2, {} calls, seed {seed}: all as the model says",
+        one.files,
+        two.files,
+        one.calls + two.calls
+    );
     if !complete {
         exit(1);
     }

@@ -1,7 +1,7 @@
 /* Calls desk_call as a C program would: plan P of docs/FORMAT.md, its stops and
- * one file for each refusal. Every call is made twice: with guard bytes around
- * both lent buffers, and with buffers of exactly their size, for tools that
- * watch the heap. */
+ * one file for each refusal, in both versions. Every call is made twice: with guard
+ * bytes around both lent buffers, and with buffers of exactly their size, for tools
+ * that watch the heap. */
 #include "../desk/desk.h"
 
 #include <stdio.h>
@@ -9,6 +9,7 @@
 #include <string.h>
 
 enum { GUARD = 64, P_LENGTH = 88, P_ROWS = 16, P_NAMES = 56 };
+enum { HELD_LENGTH = 104, HELD_ROWS = 16, HELD_NAMES = 72, HOLD = 20, LATE = 24 };
 
 static unsigned checks;
 
@@ -55,6 +56,25 @@ static const uint8_t P_ANSWER[DESK_BLOCK_LENGTH] = {
     0, 0, 0, 0, 0, 0, 0, 0,
     2, 0, 0, 0,
     2, 0, 0, 0, 4, 0, 0, 0,
+};
+
+/* P in version 2, with radio's hold 1 and gauge's late 3. */
+static const uint8_t HELD[HELD_LENGTH] = {
+    2, 0, 2, 0, 16, 0, 0, 0, 72, 0, 0, 0, 104, 0, 0, 0,
+    1, 0, 0, 0, 1, 0, 0, 0, 6, 0, 0, 0, 0xe8, 3, 0, 0, 1, 0, 0, 0, 0, 0, 0, 0, 3, 0, 0, 0,
+    2, 0, 0, 0, 1, 0, 0, 0, 8, 0, 0, 0, 0xe8, 3, 0, 0, 1, 0, 0, 0, 1, 0, 0, 0, 0, 0, 0, 0,
+    'g', 'a', 'u', 'g', 'e', 0, 0, 0, 0, 0, 0, 0, 0, 0, 0, 0,
+    'r', 'a', 'd', 'i', 'o', 0, 0, 0, 0, 0, 0, 0, 0, 0, 0, 0,
+};
+
+/* Its answer, byte for byte: cost 8, rounds 5, periods 2 and 6. */
+static const uint8_t HELD_ANSWER[DESK_BLOCK_LENGTH] = {
+    0, 0, 0, 0, 0, 0, 0, 0,
+    8, 0, 0, 0, 0, 0, 0, 0,
+    5, 0, 0, 0, 0, 0, 0, 0,
+    0, 0, 0, 0, 0, 0, 0, 0,
+    2, 0, 0, 0,
+    2, 0, 0, 0, 6, 0, 0, 0,
 };
 
 /* One call within guards. `wanted` is the block afterwards, or null where it
@@ -127,14 +147,26 @@ static void gives(const char *what, const uint8_t *file, size_t file_len, uint64
     call(what, file, file_len, DESK_BLOCK_LENGTH, budget, number, wanted);
 }
 
-/* P with one field of `width` bytes changed. */
+/* A file with one field of `width` bytes changed. */
+static void changed_in(const uint8_t *sound, size_t length, const char *what, size_t at, uint64_t value, int width,
+                       uint32_t number, uint32_t place, uint32_t n)
+{
+    uint8_t file[HELD_LENGTH];
+
+    memcpy(file, sound, length);
+    put(file + at, value, width);
+    gives(what, file, length, 9, number, place, 0, 0, n);
+}
+
 static void changed(const char *what, size_t at, uint64_t value, int width, uint32_t number, uint32_t place, uint32_t n)
 {
-    uint8_t file[P_LENGTH];
+    changed_in(P, sizeof P, what, at, value, width, number, place, n);
+}
 
-    memcpy(file, P, sizeof file);
-    put(file + at, value, width);
-    gives(what, file, sizeof file, 9, number, place, 0, 0, n);
+static void held_changed(const char *what, size_t at, uint64_t value, int width, uint32_t number, uint32_t place,
+                         uint32_t n)
+{
+    changed_in(HELD, sizeof HELD, what, at, value, width, number, place, n);
 }
 
 static void test_answer(void)
@@ -172,7 +204,10 @@ static void test_refusals(void)
     memcpy(file, P, sizeof P);
     put(file + 12, DESK_FILE_MAX + 1, 4);
     gives("2,049 bytes", file, DESK_FILE_MAX + 1, 9, DESK_FILE_SIZE, 0, 0, 0, 0);
-    changed("version 2", 0, 2, 2, DESK_VERSION, 0, 0);
+    changed("version 0", 0, 0, 2, DESK_VERSION, 0, 0);
+    changed("version 3", 0, 3, 2, DESK_VERSION, 0, 0);
+    changed("version 257", 0, 257, 2, DESK_VERSION, 0, 0);
+    changed("version 2 with rows of version 1", 0, 2, 2, DESK_OVERLAP, 0, 0);
     changed("no task", 2, 0, 2, DESK_TASK_COUNT, 0, 0);
     changed("seventeen tasks", 2, 17, 2, DESK_TASK_COUNT, 0, 0);
     changed("total one more", 12, P_LENGTH + 1, 4, DESK_TOTAL, 0, 0);
@@ -198,6 +233,43 @@ static void test_refusals(void)
     changed("gauge at 1 only", P_ROWS + 8, 1, 4, DESK_NONE, 2, 2);
 }
 
+static void test_held_answers(void)
+{
+    uint8_t file[HELD_LENGTH];
+
+    call("version 2", HELD, sizeof HELD, DESK_BLOCK_LENGTH, 5, DESK_ANSWERED, HELD_ANSWER);
+    gives("version 2, budget 4", HELD, sizeof HELD, 4, DESK_BUDGET, 0, 4, 8, 2);
+    memcpy(file, HELD, sizeof file);
+    put(file + HELD_ROWS + LATE, 1000000, 4);
+    call("version 2, greatest late", file, sizeof file, DESK_BLOCK_LENGTH, 5, DESK_ANSWERED, HELD_ANSWER);
+    put(file + HELD_ROWS + 28 + HOLD, 0, 4);
+    call("version 2 without a hold", file, sizeof file, DESK_BLOCK_LENGTH, 4, DESK_ANSWERED, P_ANSWER);
+}
+
+static void test_held_refusals(void)
+{
+    uint8_t file[HELD_LENGTH];
+
+    held_changed("version 258", 0, 258, 2, DESK_VERSION, 0, 0);
+    held_changed("version 1 with rows of version 2", 0, 1, 2, DESK_GAP, HELD_ROWS + 40, 0);
+    held_changed("total of version 1", 12, P_LENGTH, 4, DESK_TOTAL, 0, 0);
+    held_changed("rows past the end, version 2", 4, HELD_LENGTH - 55, 4, DESK_AREA, 1, 0);
+    held_changed("names past the end, version 2", 8, HELD_NAMES + 1, 4, DESK_AREA, 2, 0);
+    held_changed("names where version 1 has them", 8, P_NAMES, 4, DESK_OVERLAP, 0, 0);
+    held_changed("hold 1,000,001", HELD_ROWS + HOLD, 1000001, 4, DESK_FIELD, 1, 0);
+    held_changed("late 1,000,001", HELD_ROWS + 28 + LATE, 1000001, 4, DESK_FIELD, 2, 0);
+    held_changed("bounds crossed, version 2", HELD_ROWS + 32, 9, 4, DESK_BOUNDS, 2, 0);
+    held_changed("an empty name, version 2", HELD_NAMES + 16, 0, 1, DESK_NAME, 2, 0);
+    memcpy(file, HELD, sizeof file);
+    memcpy(file + HELD_NAMES + 16, HELD + HELD_NAMES, 16);
+    gives("a name twice, version 2", file, sizeof file, 9, DESK_SAME_NAME, 2, 0, 0, 0);
+    held_changed("greatest hold", HELD_ROWS + HOLD, 1000000, 4, DESK_LONE, 1, 2);
+    held_changed("work and hold one above high", HELD_ROWS + 28 + HOLD, 7, 4, DESK_LONE, 2, 2);
+    held_changed("work and hold at high", HELD_ROWS + 28 + HOLD, 6, 4, DESK_NONE, 2, 2);
+    held_changed("work and hold one above the cap", HELD_ROWS + 40, 2, 4, DESK_LONE, 2, 2);
+    held_changed("work and hold at the cap", HELD_ROWS + 40, 3, 4, DESK_NONE, 2, 2);
+}
+
 static void test_block_lengths(void)
 {
     static const size_t lengths[] = {0, 1, 99, 101, 1000};
@@ -213,6 +285,8 @@ int main(void)
     test_answer();
     test_stops();
     test_refusals();
+    test_held_answers();
+    test_held_refusals();
     test_block_lengths();
     printf("desk_test: %u checks hold\n", checks);
     return 0;

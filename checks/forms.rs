@@ -1,9 +1,10 @@
-//! forms PROGRAM [SEED]: runs the program `planform` on many plan files, sound and
-//! damaged, and holds what it prints byte for byte to the form of model.rs. What it
-//! wrote it must write again unchanged, and of two files it must write the same
-//! exactly where both are accepted and hold the same plan. Run from the repository's
-//! root, where plans/ is. One seed always gives the same files. Exit status 0 when
-//! all agree, every number came, and equal and different plans came often.
+//! forms PROGRAM [SEED]: runs the program `planform` on many plan files of both
+//! versions, sound and damaged, and holds what it prints byte for byte to the form of
+//! model.rs. What it wrote it must write again unchanged, and of two files it must
+//! write the same exactly where both are accepted and hold the same plan. Run from the
+//! repository's root, where plans/ is. One seed always gives the same files. Exit
+//! status 0 when all agree and, in both versions, every number came and equal and
+//! different plans came often.
 
 // The other checks use the rest.
 #[allow(dead_code)]
@@ -13,8 +14,9 @@ mod program;
 
 use model::{Task, TICK_MAX, WEIGHT_MAX};
 use plans::{
-    damaged_file, dearest_plan, encode, extreme_plan, infeasible_plan, layout, loaded_plan, name_all, named,
-    random_plan, small_plan, sound_file, tight, Layout, Random, FILE_MAX,
+    blocked_plan, damaged_file, dearest_plan, encode, extreme_plan, filled, held, infeasible_plan, latest_plan,
+    layout, layouts, loaded_plan, name_all, named, random_plan, small_plan, sound_file, tight, version_traps, Layout,
+    Random, FILE_MAX,
 };
 use program::{
     arguments, byte_by_byte, coverage, cut, cuts, hex, lengths, long_cuts, sample_files, Parts, Program, Run,
@@ -27,13 +29,17 @@ const DIFFERENT_LEAST: u64 = 1_000;
 
 // Comparison.
 
-struct Comparison {
-    program: Program,
+/// The files that were made in one version, but for pairs of both.
+struct Comparison<'a> {
+    program: &'a Program,
+    version: u64,
     seed: u64,
     files: u64,
     times: [u64; 12],
     equal: u64,
     different: u64,
+    /// Whether most pairs of each change were of two accepted files.
+    mostly_accepted: bool,
 }
 
 /// A file, its plan as the model reads it and its form as the program wrote it:
@@ -52,9 +58,13 @@ fn wanted(file: &[u8]) -> (Vec<u8>, String) {
     }
 }
 
-impl Comparison {
+impl Comparison<'_> {
+    fn new(program: &Program, version: u64, seed: u64) -> Comparison<'_> {
+        Comparison { program, version, seed, files: 0, times: [0; 12], equal: 0, different: 0, mostly_accepted: true }
+    }
+
     fn fail(&self, what: &str, file: &[u8], run: Option<&Run>) -> ! {
-        println!("forms: {what} (seed {}, file {})", self.seed, self.files);
+        println!("forms: {what} (version {}, seed {}, file {})", self.version, self.seed, self.files);
         println!("file of {} bytes: {}", file.len(), hex(file));
         if let Some(run) = run {
             println!("exit status: {:?}", run.status);
@@ -139,8 +149,9 @@ impl Comparison {
 
 // Pairs.
 
-/// Fields of one to three bytes, under drawn names.
-fn wide_plan(random: &mut Random, n: usize) -> Vec<Task> {
+/// Fields of one to three bytes, under drawn names. In version 2 one task or more has
+/// blocking.
+fn wide_plan(random: &mut Random, version: u64, n: usize) -> Vec<Task> {
     let tick = |random: &mut Random| {
         let most = random.of(&[9, 255, 256, 65_535, 65_536, TICK_MAX]);
         random.within(1, most)
@@ -153,6 +164,13 @@ fn wide_plan(random: &mut Random, n: usize) -> Vec<Task> {
         .collect();
     let mut tasks = named(&rows);
     name_all(random, &mut tasks);
+    if version == 2 {
+        for task in &mut tasks {
+            task.blocking = if random.chance(3) { 0 } else { tick(random) };
+            task.jitter = if random.chance(3) { 0 } else { tick(random) };
+        }
+        tasks[random.index(n)].blocking = tick(random);
+    }
     tasks
 }
 
@@ -218,38 +236,72 @@ fn drop_task(random: &mut Random, tasks: &mut Vec<Task>) {
     tasks.remove(i);
 }
 
-/// Pairs of a plan and its change, in one layout or in two. Says whether at least
-/// half of them were of two accepted files.
-fn changed_pairs(comparison: &mut Comparison, random: &mut Random, count: u64, what: &str, change: Change) -> bool {
+/// Blocking or jitter of one task by one, which may leave its limits.
+fn change_further_field(random: &mut Random, tasks: &mut Vec<Task>) {
+    let i = random.index(tasks.len());
+    let field = if random.chance(2) { &mut tasks[i].blocking } else { &mut tasks[i].jitter };
+    *field = if *field == 0 || random.chance(2) { *field + 1 } else { *field - 1 };
+}
+
+fn exchange_further_fields(random: &mut Random, tasks: &mut Vec<Task>) {
+    let i = random.index(tasks.len());
+    let task = &mut tasks[i];
+    (task.blocking, task.jitter) = (task.jitter, task.blocking);
+}
+
+/// What is left fits version 1.
+fn drop_further_fields(_: &mut Random, tasks: &mut Vec<Task>) {
+    tasks.iter_mut().for_each(|task| (task.blocking, task.jitter) = (0, 0));
+}
+
+const CHANGES: [(&str, Change); 6] = [
+    ("a field changed by one", change_field),
+    ("a byte of a name changed", change_name),
+    ("two tasks exchanged", exchange_tasks),
+    ("two names exchanged", exchange_names),
+    ("two rows exchanged", exchange_rows),
+    ("a task dropped", drop_task),
+];
+
+const FURTHER_CHANGES: [(&str, Change); 3] = [
+    ("a hold or late changed by one", change_further_field),
+    ("hold and late exchanged", exchange_further_fields),
+    ("all holds and lates dropped", drop_further_fields),
+];
+
+/// Pairs of a plan and its change, in one layout or in two.
+fn changed_pairs(comparison: &mut Comparison, random: &mut Random, count: u64, what: &str, change: Change) {
     let mut accepted = 0;
     for _ in 0..count {
         let n = random.of(&[2, 3, 5, 9, 16]);
-        let tasks = wide_plan(random, n);
+        let version = comparison.version;
+        let tasks = wide_plan(random, version, n);
         let mut changed = tasks.clone();
         change(random, &mut changed);
-        let first = layout(random, n);
+        let first = layout(random, version, n);
         let alike = changed.len() == n && random.chance(2);
-        let second = if alike { first.clone() } else { layout(random, changed.len()) };
+        let second = if alike { first.clone() } else { layout(random, version, changed.len()) };
         let one = comparison.encoded(&tasks, &first);
         let other = comparison.encoded(&changed, &second);
         accepted += u64::from(comparison.pair(&one, &other));
     }
-    println!("{what}: {accepted} of {count} pairs accepted");
+    println!("version {}, {what}: {accepted} of {count} pairs accepted", comparison.version);
     if accepted < count / 2 {
         println!("these are too few");
+        comparison.mostly_accepted = false;
     }
-    accepted >= count / 2
 }
 
 /// Pairs of one plan in two layouts.
 fn layout_pairs(comparison: &mut Comparison, random: &mut Random, count: u64) {
     for _ in 0..count {
         let n = random.within(1, 16) as usize;
-        let tasks = wide_plan(random, n);
-        let first = layout(random, n);
+        let version = comparison.version;
+        let tasks = wide_plan(random, version, n);
+        let first = layout(random, version, n);
         let mut second = first.clone();
         while second == first {
-            second = layout(random, n);
+            second = layout(random, version, n);
         }
         let one = comparison.encoded(&tasks, &first);
         let other = comparison.encoded(&tasks, &second);
@@ -257,33 +309,49 @@ fn layout_pairs(comparison: &mut Comparison, random: &mut Random, count: u64) {
     }
 }
 
-/// Both orders of the areas, with no gap, a small one or a wide one before, between
-/// and behind them.
-fn layouts(n: usize) -> Vec<Layout> {
-    let mut layouts = Vec::new();
-    let wide = (FILE_MAX - 16 - 36 * n) / 3;
-    for choice in 0..27 {
-        let [before, between, behind] = [1, 3, 9].map(|part| [0, 1, wide][choice / part % 3]);
-        let start = 16 + before;
-        let total = start + 36 * n + between + behind;
-        layouts.push(Layout { rows: start, names: start + 20 * n + between, total });
-        layouts.push(Layout { rows: start + 16 * n + between, names: start, total });
-    }
-    layouts
-}
-
-/// Plans of one, two and sixteen tasks in every layout. A file without gaps and with
-/// the rows first is its own form.
+/// Plans of one, two and sixteen tasks with no gap, a small one or a wide one in every
+/// place. A file without gaps and with the rows first is its own form.
 fn chosen_layouts(comparison: &mut Comparison, random: &mut Random) {
     for n in [1, 2, 16] {
-        let tasks = wide_plan(random, n);
-        let plain = comparison.encoded(&tasks, &tight(n));
+        let version = comparison.version;
+        let tasks = wide_plan(random, version, n);
+        let plain = comparison.encoded(&tasks, &tight(version, n));
         if plain.form.as_ref() != Some(&plain.file) {
             comparison.fail("not its own form", &plain.file, None);
         }
-        for layout in layouts(n) {
+        let wide = (FILE_MAX - plain.file.len()) / 3;
+        for layout in layouts(version, n, &[0, 1, wide]) {
             let other = comparison.encoded(&tasks, &layout);
             comparison.sound_pair(&plain, &other);
+        }
+    }
+}
+
+/// Pairs of one plan in version 1 and, with fields of 0, in version 2.
+fn version_pairs(comparison: &mut Comparison, random: &mut Random, count: u64) {
+    for _ in 0..count {
+        let n = random.within(1, 16) as usize;
+        let tasks = wide_plan(random, 1, n);
+        let [first, second] = [1, 2].map(|version| layout(random, version, n));
+        let one = comparison.encoded(&tasks, &first);
+        let other = comparison.encoded(&tasks, &second);
+        comparison.sound_pair(&one, &other);
+    }
+}
+
+/// One field of one task makes the form one of version 2.
+fn single_fields(comparison: &mut Comparison, random: &mut Random) {
+    for n in [1, 2, 16] {
+        let tasks = wide_plan(random, 1, n);
+        let plain = comparison.encoded(&tasks, &tight(1, n));
+        for k in 0..2 * n {
+            let mut fields = vec![(0, 0); n];
+            fields[k / 2] = [(1, 0), (0, 1)][k % 2];
+            let other = comparison.encoded(&filled(tasks.clone(), &fields), &tight(2, n));
+            comparison.pair(&plain, &other);
+            if other.form.as_ref() != Some(&other.file) {
+                comparison.fail("not its own form", &other.file, None);
+            }
         }
     }
 }
@@ -301,8 +369,8 @@ fn flipped_pairs(comparison: &mut Comparison, tasks: &[Task], layout: &Layout) {
 
 fn damaged_pairs(comparison: &mut Comparison, random: &mut Random, count: u64) {
     for _ in 0..count {
-        let one = comparison.file(&damaged_file(random));
-        let other = comparison.file(&damaged_file(random));
+        let one = comparison.file(&damaged_file(random, comparison.version));
+        let other = comparison.file(&damaged_file(random, comparison.version));
         comparison.pair(&one, &other);
     }
 }
@@ -317,7 +385,7 @@ fn sound_files(
 ) {
     for _ in 0..count {
         let tasks = plan(random);
-        comparison.file(&sound_file(random, &tasks));
+        comparison.file(&sound_file(random, comparison.version, &tasks));
     }
 }
 
@@ -326,7 +394,7 @@ fn in_parts(comparison: &mut Comparison, random: &mut Random, samples: &[Vec<u8>
     let mut inputs: Vec<Parts> = samples.iter().flat_map(|file| cuts(file)).collect();
     inputs.extend(long_cuts());
     for _ in 0..40 {
-        let file = damaged_file(random);
+        let file = damaged_file(random, comparison.version);
         inputs.push(cut(&file, random.index(file.len() + 1)));
     }
     inputs.push(byte_by_byte());
@@ -335,7 +403,8 @@ fn in_parts(comparison: &mut Comparison, random: &mut Random, samples: &[Vec<u8>
     }
 }
 
-/// The model against the bytes of plan P that docs/FORMAT.md gives.
+/// The model against the bytes of plan P that docs/FORMAT.md gives, and against those of
+/// P with the radio's blocking 1 and jitter 256.
 fn example() {
     let mut tasks = named(&[(1, 1, 6, 1_000, 1), (2, 1, 8, 1_000, 1)]);
     tasks[0].name[..5].copy_from_slice(b"gauge");
@@ -348,58 +417,95 @@ fn example() {
         "726164696f0000000000000000000000",
     ];
     assert_eq!(hex(&model::form(&tasks)), bytes.concat());
+    let bytes = [
+        "02000200100000004800000068000000",
+        "010000000100000006000000e8030000010000000000000000000000",
+        "020000000100000008000000e8030000010000000100000000010000",
+        "67617567650000000000000000000000",
+        "726164696f0000000000000000000000",
+    ];
+    assert_eq!(hex(&model::form(&filled(tasks, &[(0, 0), (1, 256)]))), bytes.concat());
+}
+
+/// Two tasks and one, in names of sixteen letters, with every bit flipped.
+fn chosen_flips(comparison: &mut Comparison, random: &mut Random, apart: &Layout) {
+    let mut tasks = wide_plan(random, comparison.version, 2);
+    tasks[0].name = *b"sixteen-letters-";
+    tasks[1].name = *b"Sixteen-letters-";
+    flipped_pairs(comparison, &tasks, &tight(comparison.version, 2));
+    flipped_pairs(comparison, &tasks[..1], apart);
+}
+
+fn version_1<'a>(program: &'a Program, seed: u64, random: &mut Random) -> Comparison<'a> {
+    let mut comparison = Comparison::new(program, 1, seed);
+    let samples = sample_files(1);
+    for file in samples.iter().chain(&lengths()) {
+        comparison.file(file);
+    }
+    in_parts(&mut comparison, random, &samples);
+    sound_files(&mut comparison, random, 1, |_| dearest_plan());
+    sound_files(&mut comparison, random, 50, small_plan);
+    sound_files(&mut comparison, random, 50, extreme_plan);
+    sound_files(&mut comparison, random, 50, infeasible_plan);
+    sound_files(&mut comparison, random, 50, random_plan);
+    sound_files(&mut comparison, random, 50, |random| loaded_plan(random, 16, 90, false));
+    chosen_layouts(&mut comparison, random);
+    layout_pairs(&mut comparison, random, 350);
+    for (what, change) in CHANGES {
+        changed_pairs(&mut comparison, random, 150, what, change);
+    }
+    chosen_flips(&mut comparison, random, &Layout { version: 1, rows: 34, names: 17, total: 56 });
+    damaged_pairs(&mut comparison, random, 500);
+    comparison
+}
+
+fn version_2<'a>(program: &'a Program, seed: u64, random: &mut Random) -> Comparison<'a> {
+    let mut comparison = Comparison::new(program, 2, seed);
+    for file in sample_files(2) {
+        cuts(&file).into_iter().for_each(|parts| drop(comparison.parts(parts)));
+    }
+    for file in version_traps(1, &[0, 8], &[1, 2]).iter().chain(&version_traps(2, &[0, 16], &[1, 2])) {
+        comparison.file(file);
+    }
+    sound_files(&mut comparison, random, 1, |_| latest_plan());
+    sound_files(&mut comparison, random, 50, held(small_plan));
+    sound_files(&mut comparison, random, 50, held(extreme_plan));
+    sound_files(&mut comparison, random, 50, blocked_plan);
+    sound_files(&mut comparison, random, 50, held(random_plan));
+    chosen_layouts(&mut comparison, random);
+    single_fields(&mut comparison, random);
+    version_pairs(&mut comparison, random, 200);
+    layout_pairs(&mut comparison, random, 150);
+    for (what, change) in CHANGES.into_iter().chain(FURTHER_CHANGES) {
+        changed_pairs(&mut comparison, random, 100, what, change);
+    }
+    chosen_flips(&mut comparison, random, &Layout { version: 2, rows: 34, names: 17, total: 64 });
+    damaged_pairs(&mut comparison, random, 250);
+    comparison
+}
+
+/// Whether every number came, and equal and different plans came often.
+fn covers(comparison: &Comparison) -> bool {
+    let often = comparison.equal >= EQUAL_LEAST && comparison.different >= DIFFERENT_LEAST;
+    if !often {
+        println!("there are fewer than {EQUAL_LEAST} pairs equal or {DIFFERENT_LEAST} different");
+    }
+    coverage(comparison.version, &comparison.times, 0..=11) && often && comparison.mostly_accepted
+}
+
+fn counts(comparison: &Comparison) -> String {
+    let Comparison { version, files, equal, different, .. } = comparison;
+    format!("{files} files made in version {version} with {equal} pairs equal, {different} different")
 }
 
 fn main() {
     let (program, seed) = arguments("forms");
     let mut random = Random(seed);
-    let random = &mut random;
-    let mut comparison = Comparison { program, seed, files: 0, times: [0; 12], equal: 0, different: 0 };
-    let comparison = &mut comparison;
     example();
-    let samples = sample_files();
-    for file in samples.iter().chain(&lengths()) {
-        comparison.file(file);
-    }
-    in_parts(comparison, random, &samples);
-    sound_files(comparison, random, 1, |_| dearest_plan());
-    sound_files(comparison, random, 50, small_plan);
-    sound_files(comparison, random, 50, extreme_plan);
-    sound_files(comparison, random, 50, infeasible_plan);
-    sound_files(comparison, random, 50, |random| {
-        let n = random.within(1, 16);
-        random_plan(random, n)
-    });
-    sound_files(comparison, random, 50, |random| loaded_plan(random, 16, 90, false));
-    chosen_layouts(comparison, random);
-    layout_pairs(comparison, random, 350);
-    let mut complete = true;
-    let changes: [(&str, Change); 6] = [
-        ("a field changed by one", change_field),
-        ("a byte of a name changed", change_name),
-        ("two tasks exchanged", exchange_tasks),
-        ("two names exchanged", exchange_names),
-        ("two rows exchanged", exchange_rows),
-        ("a task dropped", drop_task),
-    ];
-    for (what, change) in changes {
-        complete &= changed_pairs(comparison, random, 150, what, change);
-    }
-    let mut tasks = wide_plan(random, 2);
-    tasks[0].name = *b"sixteen-letters-";
-    tasks[1].name = *b"Sixteen-letters-";
-    flipped_pairs(comparison, &tasks, &tight(2));
-    flipped_pairs(comparison, &tasks[..1], &Layout { rows: 34, names: 17, total: 56 });
-    damaged_pairs(comparison, random, 500);
-    complete &= coverage(&comparison.times, 0..=11);
-    if comparison.equal < EQUAL_LEAST || comparison.different < DIFFERENT_LEAST {
-        println!("there are fewer than {EQUAL_LEAST} pairs equal or {DIFFERENT_LEAST} different");
-        complete = false;
-    }
-    println!(
-        "{} files, {} pairs equal, {} different, seed {seed}: all as the model says",
-        comparison.files, comparison.equal, comparison.different
-    );
+    let one = version_1(&program, seed, &mut random);
+    let two = version_2(&program, seed, &mut random);
+    let complete = covers(&one) & covers(&two);
+    println!("{}, {}, seed {seed}: all as the model says", counts(&one), counts(&two));
     if !complete {
         exit(1);
     }

@@ -1,7 +1,7 @@
-//! listing PROGRAM [SEED]: runs the program `timetable` on many plan files, sound
-//! and damaged, and holds what it prints byte for byte to the listing of
-//! model.rs. Run from the repository's root, where plans/ is. One seed
-//! always gives the same files. Exit status 0 when all agree and every number came.
+//! listing PROGRAM [SEED]: runs the program `timetable` on many plan files of both
+//! versions, sound and damaged, and holds what it prints byte for byte to the listing
+//! of model.rs. Run from the repository's root, where plans/ is. One seed always gives
+//! the same files. Exit status 0 when all agree and every number came in both versions.
 
 // The other checks use the rest.
 #[allow(dead_code)]
@@ -9,10 +9,10 @@ mod model;
 mod plans;
 mod program;
 
-use model::Task;
+use model::{Task, TICK_MAX, WEIGHT_MAX};
 use plans::{
-    damaged_file, dearest_plan, encode, extreme_plan, infeasible_plan, loaded_plan, named, random_plan, small_plan,
-    sound_file, tight, Layout, Random, FILE_MAX,
+    blocked_plan, damaged_file, dearest_plan, encode, extreme_plan, filled, held, infeasible_plan, latest_plan,
+    loaded_plan, named, random_plan, small_plan, sound_file, tight, version_traps, Layout, Random, FILE_MAX,
 };
 use program::{
     arguments, byte_by_byte, coverage, cut, cuts, hex, lengths, long_cuts, sample_files, Parts, Program, Run,
@@ -24,8 +24,10 @@ const FEW_ROUNDS: u64 = 200;
 
 // Comparison.
 
-struct Comparison {
-    program: Program,
+/// The files that were made in one version.
+struct Comparison<'a> {
+    program: &'a Program,
+    version: u64,
     seed: u64,
     files: u64,
     times: [u64; 35],
@@ -41,9 +43,13 @@ fn number_of(listing: &str) -> usize {
     }
 }
 
-impl Comparison {
+impl Comparison<'_> {
+    fn new(program: &Program, version: u64, seed: u64) -> Comparison<'_> {
+        Comparison { program, version, seed, files: 0, times: [0; 35] }
+    }
+
     fn fail(&self, what: &str, file: &[u8], wanted: &str, run: Option<&Run>) -> ! {
-        println!("listing: {what} (seed {}, file {})", self.seed, self.files);
+        println!("listing: {what} (version {}, seed {}, file {})", self.version, self.seed, self.files);
         println!("file of {} bytes: {}", file.len(), hex(file));
         if let Some(run) = run {
             println!("exit status: {:?}", run.status);
@@ -104,10 +110,16 @@ fn sound_files(
     count: u64,
     plan: impl Fn(&mut Random) -> Vec<Task>,
 ) {
+    let version = comparison.version;
     files(comparison, random, count, |random| {
         let tasks = plan(random);
-        sound_file(random, &tasks)
+        sound_file(random, version, &tasks)
     });
+}
+
+fn damaged_files(comparison: &mut Comparison, random: &mut Random, count: u64) {
+    let version = comparison.version;
+    files(comparison, random, count, |random| damaged_file(random, version));
 }
 
 /// One assignment only, with periods, times and costs of any number of digits.
@@ -116,11 +128,11 @@ fn fixed_plan(random: &mut Random) -> Vec<Task> {
     let n = random.within(1, 16);
     let mut rows: Vec<_> = (0..n)
         .map(|_| {
-            let most = random.of(&[9, 99, 999, 9_999, 99_999, 999_999, model::TICK_MAX]);
+            let most = random.of(&[9, 99, 999, 9_999, 99_999, 999_999, TICK_MAX]);
             let period = random.within(most / 10 + 1, most);
             let wcet = random.within(1, (period / n).max(1));
-            let weight_most = random.of(&[1, 10, 100, model::WEIGHT_MAX]);
-            (wcet, period, period, model::TICK_MAX, random.within(0, weight_most))
+            let weight_most = random.of(&[1, 10, 100, WEIGHT_MAX]);
+            (wcet, period, period, TICK_MAX, random.within(0, weight_most))
         })
         .collect();
     rows.sort_by_key(|row| row.1);
@@ -132,26 +144,48 @@ fn example() {
     let mut tasks = named(&[(1, 1, 6, 1_000, 1), (2, 1, 8, 1_000, 1)]);
     tasks[0].name[..5].copy_from_slice(b"gauge");
     tasks[1].name[..5].copy_from_slice(b"radio");
-    assert_eq!(model::listing(&encode(&tasks, &tight(2))), "cost 6 rounds 4\ngauge 2 1\nradio 4 4\n");
+    assert_eq!(model::listing(&encode(&tasks, &tight(1, 2))), "cost 6 rounds 4\ngauge 2 1\nradio 4 4\n");
+    assert_eq!(model::listing(&encode(&tasks, &tight(2, 2))), "cost 6 rounds 4\ngauge 2 1\nradio 4 4\n");
+    let tasks = filled(tasks, &[(0, 9), (1, 0)]);
+    assert_eq!(model::listing(&encode(&tasks, &tight(2, 2))), "cost 8 rounds 5\ngauge 2 1\nradio 6 6\n");
+}
+
+/// The tasks with names of sixteen letters.
+fn with_long_names(mut tasks: Vec<Task>) -> Vec<Task> {
+    for (i, task) in tasks.iter_mut().enumerate() {
+        task.name = *b"sixteen-letters-";
+        task.name[15] = b'A' + i as u8;
+    }
+    tasks
+}
+
+/// The first tasks of plan S with a weight on the first only: the order is then that of
+/// the first period, the second and so on, and few nodes are open at a time.
+fn first_weighed(n: u64) -> Vec<Task> {
+    let rows: Vec<_> = (0..n).map(|i| (20 + 10 * i, 1, 1_000, 1_000, if i == 0 { 1_000 } else { 0 })).collect();
+    named(&rows)
 }
 
 /// The longest listing, a search that spends the whole budget, and a search that
 /// fills the work space.
 fn chosen_plans(comparison: &mut Comparison, random: &mut Random) {
-    let mut dearest = dearest_plan();
-    for (i, task) in dearest.iter_mut().enumerate() {
-        task.name = *b"sixteen-letters-";
-        task.name[15] = b'A' + i as u8;
-    }
-    comparison.file(&encode(&dearest, &tight(16)));
-    comparison.file(&encode(&dearest, &Layout { rows: FILE_MAX - 320, names: 16, total: FILE_MAX }));
-    // Plan S with a weight on its first task only: the order is then that of the
-    // first period, the second and so on, and few nodes are open at a time.
-    let weights = [1_000, 0, 0, 0, 0, 0];
-    let rows: Vec<_> = (0..6).map(|i| (20 + 10 * i as u64, 1, 1_000, 1_000, weights[i])).collect();
-    comparison.file(&encode(&named(&rows), &tight(6)));
+    let dearest = with_long_names(dearest_plan());
+    comparison.file(&encode(&dearest, &tight(1, 16)));
+    comparison.file(&encode(&dearest, &Layout { version: 1, rows: FILE_MAX - 320, names: 16, total: FILE_MAX }));
+    comparison.file(&encode(&first_weighed(6), &tight(1, 6)));
     let overfull = loaded_plan(random, 16, 70, true);
-    comparison.file(&sound_file(random, &overfull));
+    comparison.file(&sound_file(random, 1, &overfull));
+}
+
+/// The same in version 2, with blocking.
+fn chosen_plans_2(comparison: &mut Comparison, random: &mut Random) {
+    let latest = with_long_names(latest_plan());
+    comparison.file(&encode(&latest, &tight(2, 16)));
+    comparison.file(&encode(&latest, &Layout { version: 2, rows: FILE_MAX - 448, names: 16, total: FILE_MAX }));
+    comparison.file(&encode(&filled(first_weighed(5), &[(30, 0), (20, 0)]), &tight(2, 5)));
+    let mut overfull = loaded_plan(random, 16, 70, true);
+    overfull.iter_mut().take(8).for_each(|task| task.blocking = 3);
+    comparison.file(&sound_file(random, 2, &overfull));
 }
 
 /// Inputs that a pipe delivers in parts. Of the sample plans only those with a
@@ -162,19 +196,15 @@ fn in_parts(comparison: &mut Comparison, random: &mut Random, samples: &[Vec<u8>
     }
     long_cuts().into_iter().for_each(|parts| comparison.parts(parts));
     for _ in 0..40 {
-        let file = brief(random, damaged_file);
+        let file = brief(random, |random| damaged_file(random, comparison.version));
         comparison.parts(cut(&file, random.index(file.len() + 1)));
     }
     comparison.parts(byte_by_byte());
 }
 
-fn main() {
-    let (program, seed) = arguments("listing");
-    let mut random = Random(seed);
-    let random = &mut random;
-    let mut comparison = Comparison { program, seed, files: 0, times: [0; 35] };
-    example();
-    let samples = sample_files();
+fn version_1<'a>(program: &'a Program, seed: u64, random: &mut Random) -> Comparison<'a> {
+    let mut comparison = Comparison::new(program, 1, seed);
+    let samples = sample_files(1);
     samples.iter().for_each(|file| comparison.file(file));
     lengths().iter().for_each(|file| comparison.file(file));
     chosen_plans(&mut comparison, random);
@@ -183,13 +213,37 @@ fn main() {
     sound_files(&mut comparison, random, 300, fixed_plan);
     sound_files(&mut comparison, random, 100, infeasible_plan);
     sound_files(&mut comparison, random, 50, extreme_plan);
-    sound_files(&mut comparison, random, 150, |random| {
-        let n = random.within(1, 16);
-        random_plan(random, n)
-    });
-    files(&mut comparison, random, 1_400, damaged_file);
-    let complete = coverage(&comparison.times, (0..=11).chain(31..=34));
-    println!("{} files, seed {seed}: all as the model says", comparison.files);
+    sound_files(&mut comparison, random, 150, random_plan);
+    damaged_files(&mut comparison, random, 1_400);
+    comparison
+}
+
+fn version_2<'a>(program: &'a Program, seed: u64, random: &mut Random) -> Comparison<'a> {
+    let mut comparison = Comparison::new(program, 2, seed);
+    for file in sample_files(2) {
+        cuts(&file).into_iter().for_each(|parts| comparison.parts(parts));
+    }
+    chosen_plans_2(&mut comparison, random);
+    version_traps(2, &[0, 16], &[1, 2]).iter().for_each(|file| comparison.file(file));
+    sound_files(&mut comparison, random, 50, small_plan);
+    sound_files(&mut comparison, random, 450, held(small_plan));
+    sound_files(&mut comparison, random, 150, held(fixed_plan));
+    sound_files(&mut comparison, random, 100, blocked_plan);
+    sound_files(&mut comparison, random, 50, held(extreme_plan));
+    sound_files(&mut comparison, random, 150, held(random_plan));
+    damaged_files(&mut comparison, random, 700);
+    comparison
+}
+
+fn main() {
+    let (program, seed) = arguments("listing");
+    let mut random = Random(seed);
+    example();
+    let one = version_1(&program, seed, &mut random);
+    let two = version_2(&program, seed, &mut random);
+    let covers = |comparison: &Comparison| coverage(comparison.version, &comparison.times, (0..=11).chain(31..=34));
+    let complete = covers(&one) & covers(&two);
+    println!("{} files made in version 1, {} in version 2, seed {seed}: all as the model says", one.files, two.files);
     if !complete {
         exit(1);
     }

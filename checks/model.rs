@@ -16,7 +16,20 @@ pub struct Task {
     pub period_max: u64,
     pub deadline_cap: u64,
     pub weight: u64,
+    pub blocking: u64,
+    pub jitter: u64,
     pub name: [u8; 16],
+}
+
+impl Task {
+    /// In the order of a row; version 1 has the first five.
+    pub fn fields(&self) -> [u64; 7] {
+        [self.wcet, self.period_min, self.period_max, self.deadline_cap, self.weight, self.blocking, self.jitter]
+    }
+
+    fn own_demand(&self) -> u64 {
+        self.wcet + self.blocking
+    }
 }
 
 /// A refusal's number and place.
@@ -50,9 +63,11 @@ pub fn read(file: &[u8]) -> Result<Vec<Task>, Refusal> {
     if length < 16 || length > 2_048 {
         return Err((1, 0));
     }
-    if number_at(file, 0, 2) != 1 {
-        return Err((2, 0));
-    }
+    let fields = match number_at(file, 0, 2) {
+        1 => 5,
+        2 => 7,
+        _ => return Err((2, 0)),
+    };
     let n = number_at(file, 2, 2);
     if n < 1 || n > 16 {
         return Err((3, 0));
@@ -61,7 +76,7 @@ pub fn read(file: &[u8]) -> Result<Vec<Task>, Refusal> {
     if total != length {
         return Err((4, 0));
     }
-    let rows = number_at(file, 4, 4)..number_at(file, 4, 4) + 20 * n;
+    let rows = number_at(file, 4, 4)..number_at(file, 4, 4) + 4 * fields * n;
     let names = number_at(file, 8, 4)..number_at(file, 8, 4) + 16 * n;
     if rows.start < 16 || rows.end > total {
         return Err((5, 1));
@@ -79,7 +94,7 @@ pub fn read(file: &[u8]) -> Result<Vec<Task>, Refusal> {
     }
     let mut tasks: Vec<Task> = Vec::new();
     for i in 0..n {
-        tasks.push(read_task(file, rows.start + 20 * i, names.start + 16 * i, i as u32 + 1)?);
+        tasks.push(read_task(file, rows.start + 4 * fields * i, fields, names.start + 16 * i, i as u32 + 1)?);
     }
     for later in 1..tasks.len() {
         if tasks[..later].iter().any(|earlier| earlier.name == tasks[later].name) {
@@ -89,8 +104,9 @@ pub fn read(file: &[u8]) -> Result<Vec<Task>, Refusal> {
     Ok(tasks)
 }
 
-fn read_task(file: &[u8], row: u64, name_at: u64, place: u32) -> Result<Task, Refusal> {
-    let field = |k: usize| number_at(file, row as usize + 4 * k, 4);
+/// A field that the row does not have is 0.
+fn read_task(file: &[u8], row: u64, fields: u64, name_at: u64, place: u32) -> Result<Task, Refusal> {
+    let field = |k: u64| if k < fields { number_at(file, (row + 4 * k) as usize, 4) } else { 0 };
     let mut name = [0; 16];
     name.copy_from_slice(&file[name_at as usize..name_at as usize + 16]);
     let task = Task {
@@ -99,6 +115,8 @@ fn read_task(file: &[u8], row: u64, name_at: u64, place: u32) -> Result<Task, Re
         period_max: field(2),
         deadline_cap: field(3),
         weight: field(4),
+        blocking: field(5),
+        jitter: field(6),
         name,
     };
     let is_tick = |value: u64| value >= 1 && value <= TICK_MAX;
@@ -107,6 +125,8 @@ fn read_task(file: &[u8], row: u64, name_at: u64, place: u32) -> Result<Task, Re
         || !is_tick(task.period_max)
         || !is_tick(task.deadline_cap)
         || task.weight > WEIGHT_MAX
+        || task.blocking > TICK_MAX
+        || task.jitter > TICK_MAX
     {
         return Err((8, place));
     }
@@ -136,20 +156,21 @@ fn letters(name: &[u8; 16]) -> &[u8] {
 }
 
 /// WRITE: the canonical form, in which rows and names follow the header in this order
-/// without a gap.
+/// without a gap. It is of version 1 where that holds all there is to say.
 pub fn form(tasks: &[Task]) -> Vec<u8> {
     let n = tasks.len() as u64;
+    let plain = tasks.iter().all(|task| task.blocking == 0 && task.jitter == 0);
+    let (version, fields) = if plain { (1, 5) } else { (2, 7) };
+    let names = 16 + 4 * fields as u64 * n;
     let mut form = Vec::new();
     let mut append = |value: u64, width: usize| form.extend((0..width).map(|k| (value >> (8 * k)) as u8));
-    append(1, 2);
+    append(version, 2);
     append(n, 2);
     append(16, 4);
-    append(16 + 20 * n, 4);
-    append(16 + 36 * n, 4);
+    append(names, 4);
+    append(names + 16 * n, 4);
     for task in tasks {
-        for field in [task.wcet, task.period_min, task.period_max, task.deadline_cap, task.weight] {
-            append(field, 4);
-        }
+        task.fields()[..fields].iter().for_each(|&field| append(field, 4));
     }
     for task in tasks {
         let name = letters(&task.name);
@@ -163,10 +184,11 @@ fn deadline(task: &Task, period: u64) -> u64 {
     period.min(task.deadline_cap)
 }
 
-/// The work that task i and those above it ask for by time t.
+/// What task i asks for by time t, with the work of those above it. Their own blocking
+/// is no work of theirs.
 fn demand(tasks: &[Task], periods: &[u64], i: usize, t: u64) -> u64 {
     let above: u64 = (0..i).map(|j| tasks[j].wcet * t.div_ceil(periods[j])).sum();
-    tasks[i].wcet + above
+    tasks[i].own_demand() + above
 }
 
 /// The least t from 1 to the deadline that covers its own demand. Demand never
@@ -174,7 +196,7 @@ fn demand(tasks: &[Task], periods: &[u64], i: usize, t: u64) -> u64 {
 /// climb passes none by.
 pub fn response_time(tasks: &[Task], periods: &[u64], i: usize) -> Option<u64> {
     let deadline = deadline(&tasks[i], periods[i]);
-    let mut t = tasks[i].wcet;
+    let mut t = tasks[i].own_demand();
     while t <= deadline {
         let needed = demand(tasks, periods, i, t);
         if needed <= t {
@@ -282,7 +304,7 @@ fn stop(outcome: Outcome, incumbent: Node) -> Outcomes {
 /// CHEAPEST and BEST with a work space of `space` numbers, at least n.
 pub fn search(tasks: &[Task], budget: u64, space: u64) -> Outcomes {
     let mut outcome = Outcome { n: tasks.len() as u32, ..Outcome::default() };
-    let alone = |task: &Task| task.wcet > task.period_max.min(task.deadline_cap);
+    let alone = |task: &Task| task.own_demand() > deadline(task, task.period_max);
     if let Some(i) = tasks.iter().position(alone) {
         return shared(Outcome { number: 31, place: i as u32 + 1, ..outcome });
     }

@@ -101,12 +101,13 @@ impl Program {
 
 // Inputs.
 
-/// The files of plans/.
-pub fn sample_files() -> Vec<Vec<u8>> {
+/// The files of plans/ that are of a version.
+pub fn sample_files(version: u64) -> Vec<Vec<u8>> {
     let folder = std::fs::read_dir("plans").expect("plans/: run this from the repository's root");
     let mut paths: Vec<_> = folder.map(|entry| entry.expect("an entry of plans/").path()).collect();
     paths.sort();
-    paths.iter().map(|path| std::fs::read(path).expect("a file of plans/")).collect()
+    let files = paths.iter().map(|path| std::fs::read(path).expect("a file of plans/"));
+    files.filter(|file| u64::from(file[0]) == version).collect()
 }
 
 /// A file of one task.
@@ -120,7 +121,7 @@ pub fn lengths() -> Vec<Vec<u8>> {
     let mut inputs = Vec::new();
     for length in [0, 1, 15, 16, 17, 51, 52, 2_047, 2_048, 2_049, 2_050, 4_096, 65_536, 65_537, 100_000] {
         inputs.push(vec![0; length]);
-        let mut file = single(&tight(1));
+        let mut file = single(&tight(1, 1));
         file.resize(length.max(52), 0);
         put(&mut file, 12, length as u64, 4);
         file.truncate(length);
@@ -142,7 +143,7 @@ pub fn cuts(file: &[u8]) -> Vec<Parts> {
 
 /// The longest file and inputs past the limit, cut.
 pub fn long_cuts() -> Vec<Parts> {
-    let longest = single(&Layout { rows: 16, names: FILE_MAX - 16, total: FILE_MAX });
+    let longest = single(&Layout { version: 1, rows: 16, names: FILE_MAX - 16, total: FILE_MAX });
     let mut longer = longest.clone();
     longer.push(0);
     let zeros = vec![0; 100_000];
@@ -159,7 +160,7 @@ pub fn long_cuts() -> Vec<Parts> {
 
 /// A short file, one byte at a time.
 pub fn byte_by_byte() -> Parts {
-    single(&tight(1)).iter().map(|&byte| vec![byte]).collect()
+    single(&tight(1, 1)).iter().map(|&byte| vec![byte]).collect()
 }
 
 // Reports.
@@ -168,11 +169,11 @@ pub fn hex(bytes: &[u8]) -> String {
     bytes.iter().map(|byte| format!("{byte:02x}")).collect()
 }
 
-/// Whether every number that the program can print came.
-pub fn coverage(times: &[u64], numbers: impl Iterator<Item = usize>) -> bool {
+/// Whether every number that the program can print came with files of a version.
+pub fn coverage(version: u64, times: &[u64], numbers: impl Iterator<Item = usize>) -> bool {
     let mut complete = true;
     for number in numbers {
-        println!("number {number:2}: {:5} times", times[number]);
+        println!("version {version}, number {number:2}: {:5} times", times[number]);
         if times[number] == 0 {
             println!("number {number} is missing");
             complete = false;
