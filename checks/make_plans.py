@@ -2,7 +2,8 @@
 
 Format: docs/FORMAT.md, "Plan file". A task here is
 (name, wcet, period_min, period_max, deadline_cap, weight), in ticks of 100
-microseconds, highest priority first.
+microseconds, highest priority first; in a plan of version 2 blocking and jitter
+come behind the weight.
 """
 
 import struct
@@ -14,11 +15,13 @@ HEADER = 16
 
 def plan_file(tasks):
     """Rows right after the header, names right after the rows."""
-    rows = b"".join(struct.pack("<5I", *fields) for _, *fields in tasks)
+    version = 1 if all(len(task) == 6 for task in tasks) else 2
+    row = struct.Struct("<5I" if version == 1 else "<7I")
+    rows = b"".join(row.pack(*fields) for _, *fields in tasks)
     names = b"".join(name.encode("ascii").ljust(16, b"\0") for name, *_ in tasks)
     at_names = HEADER + len(rows)
     total = at_names + len(names)
-    return struct.pack("<HHIII", 1, len(tasks), HEADER, at_names, total) + rows + names
+    return struct.pack("<HHIII", version, len(tasks), HEADER, at_names, total) + rows + names
 
 
 # Plan P of docs/FORMAT.md: cost 6, rounds 4, periods 2 and 4.
@@ -56,11 +59,26 @@ QUAY_BOX = [
     ("self-test", 200, 10000, 10000, 10000, 0),
 ]
 
+# A box with the serial driver, in version 2. The logger keeps those above it waiting
+# for up to 15 ticks while it sends a record, the battery check the logger for 3; the
+# sonde may come up 3 ticks late. The answer costs 75,260 after 380 rounds: gauge 36,
+# pressure 50, radio 250, sonde 128, logger 250, battery 1,000. Without the holds it
+# would cost 73,310 after 812: gauge 32, sonde 117, logger 349, the others the same.
+SERIAL_BOX = [
+    ("gauge", 12, 30, 90, 1_000_000, 900, 15, 0),
+    ("pressure", 9, 40, 110, 1_000_000, 400, 15, 0),
+    ("radio", 20, 250, 250, 120, 0, 15, 0),
+    ("sonde", 18, 60, 180, 1_000_000, 120, 15, 3),
+    ("logger", 60, 250, 350, 1_000_000, 30, 3, 0),
+    ("battery", 5, 1000, 1000, 1000, 0, 0, 0),
+]
+
 SAMPLES = {
     "P.plan": plan_file(P),
     "S.plan": plan_file(S),
     "refused.plan": plan_file(REFUSED),
     "quay-box.plan": plan_file(QUAY_BOX),
+    "serial-box.plan": plan_file(SERIAL_BOX),
 }
 
 
