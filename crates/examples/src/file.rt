@@ -4,6 +4,7 @@ use super::words::byte;
 use super::words::number;
 use super::words::number_u32;
 use super::words::piece;
+use std::num::wrapping_add_u32;
 use std::num::wrapping_add_usize;
 use std::num::wrapping_sub_usize;
 
@@ -24,14 +25,23 @@ fn without(v: u32, k: usize) -> u32 {
     }
 }
 
-// Number k of the header of n tasks, at most sixteen, whose rows follow it and whose names follow these.
-fn header(n: u32, k: usize) -> u32 {
+// Where the names of n tasks, at most sixteen, start in a version, right behind the rows.
+fn names_at(version: u32, n: u32) -> u32 {
+    if version == 1 {
+        16 + 20 * (n % 17)
+    } else {
+        16 + 28 * (n % 17)
+    }
+}
+
+// Number k of the header of n tasks, at most sixteen, in a version; their rows follow it, and their names these.
+fn header(version: u32, n: u32, k: usize) -> u32 {
     let tasks = n % 17;
     match k {
-        0 => 1 + 65536 * tasks,
+        0 => wrapping_add_u32(version, 65536 * tasks),
         1 => 16,
-        2 => 16 + 20 * tasks,
-        _ => 16 + 36 * tasks,
+        2 => names_at(version, n),
+        _ => wrapping_add_u32(names_at(version, n), 16 * tasks),
     }
 }
 
@@ -39,7 +49,7 @@ fn header(n: u32, k: usize) -> u32 {
 fn number_of(rows: &[u32], k: usize) -> u32 {
     let names = 4 + 5 * tasks(rows) as usize;
     if k < 4 {
-        header(tasks(rows), k)
+        header(1, tasks(rows), k)
     } else if k < names {
         at(rows, k - 4)
     } else if (k - names) % 4 == 0 {
@@ -63,20 +73,30 @@ pub(crate) fn build(rows: &[u32], file: &mut [u8]) -> usize {
 // How many bytes a word writes.
 fn size(word: &[u8]) -> usize {
     match byte(word, 0) {
-        b'%' | b'\'' => 16,
+        b'%' | b'&' | b'\'' => 16,
         b'.' => 1,
         b'*' => 20 * (number(word) % 128) as usize,
+        b'+' => 28 * (number(word) % 128) as usize,
         b'0'..=b'9' => 4,
         _ => 0,
+    }
+}
+
+// Number k of the header that a word writes.
+fn header_of(word: &[u8], k: usize) -> u32 {
+    match byte(word, 0) {
+        b'%' => header(1, number_u32(word), k),
+        _ => header(2, number_u32(word), k),
     }
 }
 
 // Byte k of what a word writes, which goes to an offset of the file.
 fn byte_of(word: &[u8], k: usize, file: &[u8], to: usize) -> u32 {
     match byte(word, 0) {
-        b'%' => without(header(number_u32(word), k / 4), k % 4),
+        b'%' | b'&' => without(header_of(word, k / 4), k % 4),
         b'\'' => byte(word, wrapping_add_usize(k, 1)) as u32,
         b'*' => byte(file, wrapping_sub_usize(to, 20)) as u32,
+        b'+' => byte(file, wrapping_sub_usize(to, 28)) as u32,
         _ => without(number_u32(word), k),
     }
 }
@@ -103,9 +123,9 @@ struct Place {
 // The place behind a word that is written up to an offset.
 fn moved(word: &[u8], behind: usize, p: Place) -> Place {
     match byte(word, 0) {
-        b'%' => Place {
+        b'%' | b'&' => Place {
             at: behind,
-            end: header(number_u32(word), 3) as usize,
+            end: header_of(word, 3) as usize,
         },
         b'@' => Place {
             at: number(word) as usize,
@@ -135,12 +155,22 @@ fn write_from(words: &[u8], file: &mut [u8], end: usize) -> usize {
     p.end
 }
 
-// The file that words describe, over zeros: changes to plan P of docs/FORMAT.md, or a plan of their own that a header
-// begins; its length.
-pub(crate) fn write(words: &[u8], file: &mut [u8]) -> usize {
-    if byte(words, 1) == b'%' {
-        return write_from(words, file, 0);
+// Writes the plan that words change, over zeros: none before a header, plan Q before $, else plan P of docs/FORMAT.md;
+// where it ends.
+fn write_base(words: &[u8], file: &mut [u8]) -> usize {
+    match byte(words, 1) {
+        b'%' | b'&' => 0,
+        b'$' => write_from(
+            b"&2 1 1 6 1000 1 0 0 2 1 8 1000 1 0 0 'gauge 'radio",
+            file,
+            0,
+        ),
+        _ => write_from(b"%2 1 1 6 1000 1 2 1 8 1000 1 'gauge 'radio", file, 0),
     }
-    let end = write_from(b"%2 1 1 6 1000 1 2 1 8 1000 1 'gauge 'radio", file, 0);
+}
+
+// The file that words describe, over zeros; its length.
+pub(crate) fn write(words: &[u8], file: &mut [u8]) -> usize {
+    let end = write_base(words, file);
     write_from(words, file, end)
 }
