@@ -34,11 +34,16 @@ pub(crate) fn lesser(a: u32, b: u32) -> u32 {
     if a < b { a } else { b }
 }
 
+// What a task demands for itself: its wcet and, once, its blocking.
+pub(crate) fn own_demand(rows: &[u32], task: usize) -> u32 {
+    wrapping_add_u32(column(rows, task, 0), column(rows, task, 5))
+}
+
 // The response time by the clock: tick by tick, until all work released before the tick's end is done; 0 past the
 // deadline.
 fn finish(rows: &[u32], periods: &[u32], task: usize) -> u32 {
     let deadline = lesser(at(periods, task), column(rows, task, 3));
-    let mut work = column(rows, task, 0);
+    let mut work = own_demand(rows, task);
     let mut now: u32 = 0;
     while now < deadline {
         work = wrapping_add_u32(work, released(rows, periods, task, now));

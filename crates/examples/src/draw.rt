@@ -10,13 +10,13 @@ fn next(seed: u32) -> u32 {
 }
 
 // The next numbers of a fixed sequence.
-pub(crate) fn sequence(seed: u32) -> [u32; 30]
-    ensures { λ r. ⌜ length r ≡ 30 ⌝ }
+pub(crate) fn sequence(seed: u32) -> [u32; 36]
+    ensures { λ r. ⌜ length r ≡ 36 ⌝ }
 {
-    let mut list = [0u32; 30];
+    let mut list = [0u32; 36];
     let mut last = seed;
     let mut k: usize = 0;
-    while k < 30 {
+    while k < 36 {
         last = next(last);
         list[k] = last;
         k += 1;
@@ -38,27 +38,33 @@ fn draw_tasks(sequence: &[u32]) -> usize {
     draw(sequence, 15, 1, 3) as usize
 }
 
-// Number k of rows of small tasks: wcet 1 to 4, at most eight periods each, caps 1 to 24, weights 0 to 3.
-fn draw_number(sequence: &[u32], k: usize) -> u32 {
-    if draw_tasks(sequence) <= k / 5 {
+// Number k of rows of small tasks: wcet 1 to 4, at most eight periods each, caps 1 to 24, weights 0 to 3, and blocking
+// and jitter below `further`.
+fn draw_number(sequence: &[u32], k: usize, further: u32) -> u32 {
+    let task = k / 7;
+    let from = 5 * task;
+    if draw_tasks(sequence) <= task {
         return 0;
     }
-    match k % 5 {
-        2 => draw(sequence, k, draw(sequence, k - 1, 1, 4), 8),
-        3 => draw(sequence, k, 1, 24),
-        4 => draw(sequence, k, 0, 4),
-        _ => draw(sequence, k, 1, 4),
+    match k % 7 {
+        0 => draw(sequence, from, 1, 4),
+        1 => draw(sequence, from + 1, 1, 4),
+        2 => draw(sequence, from + 2, draw(sequence, from + 1, 1, 4), 8),
+        3 => draw(sequence, from + 3, 1, 24),
+        4 => draw(sequence, from + 4, 0, 4),
+        5 => draw(sequence, task + 30, 0, further),
+        _ => draw(sequence, task + 33, 0, further),
     }
 }
 
-// Rows of up to three tasks, by numbers 0 to 14.
-pub(crate) fn draw_plan(sequence: &[u32]) -> [u32; 15]
-    ensures { λ r. ⌜ length r ≡ 15 ⌝ }
+// Rows of up to three tasks, by numbers 0 to 14, and with blocking and jitter below `further` by numbers 30 to 35.
+pub(crate) fn draw_plan(sequence: &[u32], further: u32) -> [u32; 21]
+    ensures { λ r. ⌜ length r ≡ 21 ⌝ }
 {
-    let mut rows = [0u32; 15];
+    let mut rows = [0u32; 21];
     let mut k: usize = 0;
-    while k < 15 {
-        rows[k] = draw_number(sequence, k);
+    while k < 21 {
+        rows[k] = draw_number(sequence, k, further);
         k += 1;
     }
     rows

@@ -1,4 +1,5 @@
 use super::list::at;
+use super::list::column;
 use super::list::tasks;
 use super::words::byte;
 use super::words::number;
@@ -45,13 +46,22 @@ fn header(version: u32, n: u32, k: usize) -> u32 {
     }
 }
 
-// Number k of the plan file of some rows, whose tasks are called A, B and C.
-fn number_of(rows: &[u32], k: usize) -> u32 {
-    let names = 4 + 5 * tasks(rows) as usize;
+// Number k of rows as a version has them.
+fn row_number(version: u32, rows: &[u32], k: usize) -> u32 {
+    if version == 1 {
+        column(rows, k / 5, k % 5)
+    } else {
+        at(rows, k)
+    }
+}
+
+// Number k of the plan file of some rows in a version, whose tasks are called A, B and C.
+fn number_of(version: u32, rows: &[u32], k: usize) -> u32 {
+    let names = (names_at(version, tasks(rows)) / 4) as usize;
     if k < 4 {
-        header(1, tasks(rows), k)
+        header(version, tasks(rows), k)
     } else if k < names {
-        at(rows, k - 4)
+        row_number(version, rows, k - 4)
     } else if (k - names) % 4 == 0 {
         (65 + (k - names) / 4 % 3) as u32
     } else {
@@ -59,12 +69,12 @@ fn number_of(rows: &[u32], k: usize) -> u32 {
     }
 }
 
-// Writes the plan file of up to three rows; its length.
-pub(crate) fn build(rows: &[u32], file: &mut [u8]) -> usize {
-    let end = 16 + 36 * tasks(rows) as usize;
+// Writes the plan file of up to three rows in a version; its length.
+pub(crate) fn build(version: u32, rows: &[u32], file: &mut [u8]) -> usize {
+    let end = header(version, tasks(rows), 3) as usize;
     let mut k: usize = 0;
     while k < end {
-        put_byte(file, k, without(number_of(rows, k / 4), k % 4));
+        put_byte(file, k, without(number_of(version, rows, k / 4), k % 4));
         k += 1;
     }
     end

@@ -58,11 +58,12 @@ pub(crate) fn begins(list: &[u32], with: &[u32]) -> bool {
     true
 }
 
-// One of a task's numbers in rows of five: 0 wcet, 1 period_min, 2 period_max, 3 deadline_cap, 4 weight.
+// One of a task's numbers in rows of seven: 0 wcet, 1 period_min, 2 period_max, 3 deadline_cap, 4 weight, 5 blocking,
+// 6 jitter.
 pub(crate) fn column(rows: &[u32], task: usize, k: usize) -> u32 {
     if task < 16 {
-        if k < 5 {
-            return at(rows, 5 * task + k);
+        if k < 7 {
+            return at(rows, 7 * task + k);
         }
     }
     0

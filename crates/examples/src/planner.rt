@@ -1,11 +1,13 @@
 use super::assignments::assignments;
 use super::assignments::cost;
+use super::assignments::least;
 use super::assignments::optimum;
 use super::assignments::product;
 use super::assignments::within;
 use super::clock::first_flag;
 use super::clock::first_missed;
 use super::clock::lesser;
+use super::clock::own_demand;
 use super::draw::draw;
 use super::list::add;
 use super::list::all;
@@ -33,9 +35,9 @@ pub(crate) fn optimize(
     }
 }
 
-// A task's flag if its wcet exceeds its longest period or its cap, else 0.
+// A task's flag if its own demand exceeds its longest period or its cap, else 0.
 fn alone_flag(rows: &[u32], task: usize, flag: u32) -> u32 {
-    if lesser(column(rows, task, 2), column(rows, task, 3)) < column(rows, task, 0) {
+    if lesser(column(rows, task, 2), column(rows, task, 3)) < own_demand(rows, task) {
         flag
     } else {
         0
@@ -161,6 +163,23 @@ fn right(
         right_rounds(r.rounds, rows, budget)
             && right_end(r, rows, &optimum, keeps, budget, periods, work)
             && (!keeps || rounds::agrees(r, rows, met, budget, work.len(), periods))
+    }
+}
+
+// Where it is counted what blocking makes of the cheapest assignment, which is number `free` without it, 512 if there is
+// none: 0 none either way, 1 the same, 2 another, 3 none by rule 31, 4 none by rule 32.
+pub(crate) fn change(rows: &[u32], met: &[u32], free: u32) -> usize {
+    let best = least(rows, met);
+    if free == 512 {
+        0
+    } else if best == free {
+        1
+    } else if best < 512 {
+        2
+    } else if first_alone(rows) != 0 {
+        3
+    } else {
+        4
     }
 }
 

@@ -6,10 +6,10 @@ use Rattle.examples.proofs.draw.draw_plan.Statement.{statement}
 use Rattle.examples.proofs.draw.draw_plan.Tie as tie
 
 abbrev Inv-loop : tie.InvT-loop
-Inv-loop sequence rows₀ k₀ rows k = (k ≤ 15) × (length rows ≡ 15)
+Inv-loop sequence further rows₀ k₀ rows k = (k ≤ 21) × (length rows ≡ 21)
 
 abbrev μ-loop : tie.MeasureT-loop
-μ-loop sequence rows₀ k₀ rows k = 15 - k
+μ-loop sequence further rows₀ k₀ rows k = 21 - k
 
 pub draw-plan-spec : {M : Type 1} → statement M
 draw-plan-spec =

@@ -6,10 +6,10 @@ use Rattle.examples.proofs.draw.sequence.Statement.{statement}
 use Rattle.examples.proofs.draw.sequence.Tie as tie
 
 abbrev Inv-loop : tie.InvT-loop
-Inv-loop seed list₀ last₀ k₀ list last k = (k ≤ 30) × (length list ≡ 30)
+Inv-loop seed list₀ last₀ k₀ list last k = (k ≤ 36) × (length list ≡ 36)
 
 abbrev μ-loop : tie.MeasureT-loop
-μ-loop seed list₀ last₀ k₀ list last k = 30 - k
+μ-loop seed list₀ last₀ k₀ list last k = 36 - k
 
 pub sequence-spec : {M : Type 1} → statement M
 sequence-spec =
