@@ -12,8 +12,8 @@ mod plans;
 use model::{Node, Outcome, Outcomes, Task, TICK_MAX};
 use plans::{
     blocked_plan, damaged_file, dearest_plan, encode, extreme_plan, filled, held, infeasible_plan, jitter_some,
-    latest_plan, loaded_plan, named, put, random_plan, small_plan, sound_file, tight, version_traps, Layout, Random,
-    FILE_MAX,
+    latest_plan, limit_files, loaded_plan, named, put, random_plan, small_plan, sound_file, tight, version_traps,
+    Layout, Random, FILE_MAX,
 };
 use std::collections::BTreeSet;
 use std::process::exit;
@@ -532,15 +532,9 @@ fn chosen_files_2(comparison: &mut Comparison, random: &mut Random) {
         }
     }
 
-    let wide = encode(&named(&[(1, 1_000, TICK_MAX, TICK_MAX, 1); 16]), &tight(2, 16));
-    for at in (0..16).flat_map(|i| [20, 24].map(|field| 16 + 28 * i + field)) {
-        for value in [0, 1, TICK_MAX - 1, TICK_MAX, TICK_MAX + 1, 1 << 24, 1 << 31, 0xffff_ffff] {
-            let mut file = wide.clone();
-            put(&mut file, at, value, 4);
-            comparison.file(random, &file, &[0, 3]);
-        }
+    for file in limit_files(16) {
+        comparison.file(random, &file, &[0, 3]);
     }
-
     latest_responses(comparison, random);
 
     let one = filled(named(&[(5, 3, 10, 1_000, 1)]), &[(3, 258)]);

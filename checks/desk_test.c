@@ -235,7 +235,7 @@ static void test_refusals(void)
 
 static void test_held_answers(void)
 {
-    uint8_t file[HELD_LENGTH];
+    uint8_t file[HELD_LENGTH], wanted[DESK_BLOCK_LENGTH];
 
     call("version 2", HELD, sizeof HELD, DESK_BLOCK_LENGTH, 5, DESK_ANSWERED, HELD_ANSWER);
     gives("version 2, budget 4", HELD, sizeof HELD, 4, DESK_BUDGET, 0, 4, 8, 2);
@@ -244,6 +244,14 @@ static void test_held_answers(void)
     call("version 2, greatest late", file, sizeof file, DESK_BLOCK_LENGTH, 5, DESK_ANSWERED, HELD_ANSWER);
     put(file + HELD_ROWS + 28 + HOLD, 0, 4);
     call("version 2 without a hold", file, sizeof file, DESK_BLOCK_LENGTH, 4, DESK_ANSWERED, P_ANSWER);
+
+    /* Gauge's hold makes its own period longer; radio does not see it. */
+    put(file + HELD_ROWS + HOLD, 2, 4);
+    memcpy(wanted, P_ANSWER, sizeof wanted);
+    put(wanted + DESK_AT_ROUNDS, 3, 8);
+    put(wanted + DESK_AT_PERIODS, 3, 4);
+    put(wanted + DESK_AT_PERIODS + 4, 3, 4);
+    call("version 2, gauge's hold 2", file, sizeof file, DESK_BLOCK_LENGTH, 3, DESK_ANSWERED, wanted);
 }
 
 static void test_held_refusals(void)

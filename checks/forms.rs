@@ -15,8 +15,8 @@ mod program;
 use model::{Task, TICK_MAX, WEIGHT_MAX};
 use plans::{
     blocked_plan, damaged_file, dearest_plan, encode, extreme_plan, filled, held, infeasible_plan, latest_plan,
-    layout, layouts, loaded_plan, name_all, named, random_plan, small_plan, sound_file, tight, version_traps, Layout,
-    Random, FILE_MAX,
+    layout, layouts, limit_files, loaded_plan, name_all, named, random_plan, small_plan, sound_file, tight,
+    version_traps, Layout, Random, FILE_MAX,
 };
 use program::{
     arguments, byte_by_byte, coverage, cut, cuts, hex, lengths, long_cuts, sample_files, Parts, Program, Run,
@@ -464,7 +464,8 @@ fn version_2<'a>(program: &'a Program, seed: u64, random: &mut Random) -> Compar
     for file in sample_files(2) {
         cuts(&file).into_iter().for_each(|parts| drop(comparison.parts(parts)));
     }
-    for file in version_traps(1, &[0, 8], &[1, 2]).iter().chain(&version_traps(2, &[0, 16], &[1, 2])) {
+    let traps = [version_traps(1, &[0, 8], &[1, 2]), version_traps(2, &[0, 16], &[1, 2])].concat();
+    for file in limit_files(2).iter().chain(&traps) {
         comparison.file(file);
     }
     sound_files(&mut comparison, random, 1, |_| latest_plan());

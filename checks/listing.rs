@@ -12,7 +12,8 @@ mod program;
 use model::{Task, TICK_MAX, WEIGHT_MAX};
 use plans::{
     blocked_plan, damaged_file, dearest_plan, encode, extreme_plan, filled, held, infeasible_plan, latest_plan,
-    loaded_plan, named, random_plan, small_plan, sound_file, tight, version_traps, Layout, Random, FILE_MAX,
+    limit_files, loaded_plan, named, random_plan, small_plan, sound_file, tight, version_traps, Layout, Random,
+    FILE_MAX,
 };
 use program::{
     arguments, byte_by_byte, coverage, cut, cuts, hex, lengths, long_cuts, sample_files, Parts, Program, Run,
@@ -224,7 +225,9 @@ fn version_2<'a>(program: &'a Program, seed: u64, random: &mut Random) -> Compar
         cuts(&file).into_iter().for_each(|parts| comparison.parts(parts));
     }
     chosen_plans_2(&mut comparison, random);
-    version_traps(2, &[0, 16], &[1, 2]).iter().for_each(|file| comparison.file(file));
+    for file in limit_files(2).iter().chain(&version_traps(2, &[0, 16], &[1, 2])) {
+        comparison.file(file);
+    }
     sound_files(&mut comparison, random, 50, small_plan);
     sound_files(&mut comparison, random, 450, held(small_plan));
     sound_files(&mut comparison, random, 150, held(fixed_plan));

@@ -455,6 +455,20 @@ pub fn damaged_file(random: &mut Random, version: u64) -> Vec<u8> {
     file
 }
 
+/// Files of n tasks with blocking or jitter of one of them about its limits.
+pub fn limit_files(n: usize) -> Vec<Vec<u8>> {
+    let sound = encode(&named(&vec![(1, 1_000, TICK_MAX, TICK_MAX, 1); n]), &tight(2, n));
+    let mut files = Vec::new();
+    for at in (0..n).flat_map(|i| [20, 24].map(|field| 16 + 28 * i + field)) {
+        for value in [0, 1, TICK_MAX - 1, TICK_MAX, TICK_MAX + 1, 1 << 24, 1 << 31, 0xffff_ffff] {
+            let mut file = sound.clone();
+            put(&mut file, at, value, 4);
+            files.push(file);
+        }
+    }
+    files
+}
+
 /// Files of n tasks laid out for the rows of either version, under the version numbers
 /// given: with rows of the other width their areas may pass the end or share bytes, or
 /// fit only then. Some have a 1 right behind the rows of either width, in a gap, a field
