@@ -53,31 +53,22 @@ row-valid t i e =
 
 -- the limits that hold past the last task too
 pub record ValidAt (ts : List Task) (k : ℕ) : Type 0 where
-  pub wcet-most : taskAt ts k .wcet ≤ maxTicks
   pub ordered : taskAt ts k .«period_min» ≤ taskAt ts k .«period_max»
   pub max-most : taskAt ts k .«period_max» ≤ maxTicks
-  pub cap-most : taskAt ts k .«deadline_cap» ≤ maxTicks
   pub weight-most : taskAt ts k .weight ≤ maxWeight
-  pub blocking-most : taskAt ts k .blocking ≤ maxBlocking
 
 pub valid-at : (ts : List Task) → AllValid ts → (k : ℕ) → ValidAt ts k
 valid-at ts v k = elim (le-or-lt (length ts) k) [
   | inl p ↦ let e : taskAt ts k ≡ noTask = List·getD-eq-default ts noTask p in
       record {
-        wcet-most = rw e (omega arith);
         ordered = rw e (omega arith);
         max-most = rw e (omega arith);
-        cap-most = rw e (omega arith);
         weight-most = rw e (omega arith);
-        blocking-most = rw e (omega arith);
       }
   | inr p ↦ let w = v k p in
       record {
-        wcet-most = w .wcet-most;
         ordered = w .ordered;
         max-most = w .max-most;
-        cap-most = w .cap-most;
         weight-most = w .weight-most;
-        blocking-most = w .blocking-most;
       }
 ]
