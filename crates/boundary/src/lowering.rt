@@ -14,9 +14,9 @@ use response::deadline_at;
 use response::own_demand;
 use response::response_from;
 
-// Where the climb of task i may begin, the response time of the task right above it being known: that one responds no
-// later without its blocking, which task i does not see, and task i its own demand later. A blocking above that demand
-// tells nothing.
+// Where the climb of task i may begin, the response time of the task right above it being known: it responds no earlier
+// than that, less that task's blocking, which it does not see, and its own demand later. Where the blocking exceeds its
+// own demand only the latter is known.
 fn begin_at(tasks: &[u32], i: usize, above: u32) -> u32
     requires { ⌜ BeginsBelow (tasksIn (now tasks)) i above ⌝ }
     ensures { λ r. ⌜ r ≡ beginAt (tasksIn (now (tasks .entry))) i above ⌝ }
@@ -32,9 +32,9 @@ fn begin_at(tasks: &[u32], i: usize, above: u32) -> u32
     above + (own - blocking)
 }
 
-// Each task in turn. A task responds no earlier than `begin_at`, and the lowest no earlier than before a period was
-// lowered: their climbs begin there. The periods that are lowered and the node's below them
-// are a lower bound of the cost: past the limit the rest is left.
+// Each task in turn. A task responds no earlier than `begin_at` says, and the lowest no earlier than before a period was
+// lowered: their climbs begin there. The periods that are lowered and the node's below them are a lower bound of the
+// cost: past the limit the rest is left.
 fn lower_all(tasks: &[u32], x: &mut [u32], node: &[u32], node_cost: u64, limit: u64) -> u64
     requires { ⌜ (let ts = tasksIn (now tasks) in
         Lowers ts (now node) (now x) × («node_cost» ≡ cost (weights ts) (now node))) ⌝ }
