@@ -32,9 +32,9 @@ fn begin_at(tasks: &[u32], i: usize, above: u32) -> u32
     above + (own - blocking)
 }
 
-// Each task in turn. A task responds no earlier than `begin_at` says, and the lowest no earlier than before a period was
-// lowered: their climbs begin there. The periods that are lowered and the node's below them are a lower bound of the
-// cost: past the limit the rest is left.
+// Each task in turn. A task responds no earlier than `begin_at` says, and the lowest no earlier than before a period
+// was lowered: their climbs begin there. The periods that are lowered and the node's below them are a lower bound of
+// the cost: past the limit the rest is left.
 fn lower_all(tasks: &[u32], x: &mut [u32], node: &[u32], node_cost: u64, limit: u64) -> u64
     requires { ⌜ (let ts = tasksIn (now tasks) in
         Lowers ts (now node) (now x) × («node_cost» ≡ cost (weights ts) (now node))) ⌝ }

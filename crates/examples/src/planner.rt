@@ -166,8 +166,8 @@ fn right(
     }
 }
 
-// Where it is counted what blocking makes of the cheapest assignment, which is number `free` without it, 512 if there is
-// none: 0 none either way, 1 the same, 2 another, 3 none by rule 31, 4 none by rule 32.
+// Where it is counted what blocking makes of the cheapest assignment, which is number `free` without it, 512 if there
+// is none: 0 none either way, 1 the same, 2 another, 3 none by rule 31, 4 none by rule 32.
 pub(crate) fn change(rows: &[u32], met: &[u32], free: u32) -> usize {
     let best = least(rows, met);
     if free == 512 {

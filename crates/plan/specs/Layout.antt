@@ -5,7 +5,7 @@ use Prim.Native.Nat.{ℕ, _+_, _*_}
 use lib.Dec.{eqb, ltb, leb}
 use Rattle.plan.specs.Words.{word}
 
--- "A header of 16 bytes: version at 0 (2 bytes); n at 2 (2 bytes); offset of the rows at 4, offset of the
+-- "A header of 16 bytes: version at 0 (2 bytes, ..); n at 2 (2 bytes); offset of the rows at 4, offset of the
 -- names at 8, total length at 12 (4 bytes each)"
 abbrev pub headerWidth : ℕ
 headerWidth = 16
