@@ -1,3 +1,5 @@
+#![tactic(auto)]
+
 // The boundary between unschedulable and schedulable assignments.
 mod node; // node.rt: an assignment with its cost, and the copy of a node
 mod misses; // misses.rt: the last period of a task at which a deadline is missed

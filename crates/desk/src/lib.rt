@@ -1,3 +1,5 @@
+#![tactic(auto)]
+
 // DESK: the answer block and the C interface.
 mod block; // block.rt: the writer of the block
 mod call; // call.rt: the exported call

@@ -1,3 +1,5 @@
+#![tactic(auto)]
+
 // Examples and tests that are run, not proved: each line says what was tried and what came out.
 mod print; // print.rt: text and numbers to standard output
 mod list; // list.rt: lists of numbers, read and set at any index

@@ -1,3 +1,5 @@
+#![tactic(auto)]
+
 // What a program is given on standard input.
 ghost use Rattle.io.specs.Counts.{IsPrefixLen};
 

@@ -1,3 +1,5 @@
+#![tactic(auto)]
+
 // CHEAPEST and BEST: the step rule over a lent work space.
 mod answer; // answer.rt: the operations' answer
 mod order; // order.rt: cost and order of period assignments

@@ -14,7 +14,7 @@ pub const HEADER_WIDTH: usize = 16;
 pub const NAME_WIDTH: usize = 16;
 
 // Where a file's rows and names start and end, of which version and how wide a row is, and how many tasks there are.
-#[derive(Drop)]
+#[derive(Clone, Copy)]
 pub struct Areas {
     pub version: u32,
     pub tasks: usize,
@@ -26,7 +26,7 @@ pub struct Areas {
 }
 
 // What the header says: the areas, or the refusal.
-#[derive(Drop)]
+#[derive(Clone, Copy)]
 pub enum Layout {
     Located(Areas),
     Broken(Fault),

@@ -1,3 +1,5 @@
+#![tactic(auto)]
+
 // The plan file: tasks and their limits, the layout, names, refusals 1 to 11 with their places, and the canonical form.
 mod faults; // faults.rt: a refusal's number and place
 mod words; // words.rt: little-endian numbers

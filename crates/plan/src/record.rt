@@ -4,7 +4,7 @@ ghost use Rattle.plan.specs.Tasks.{within_limits};
 use super::words::between;
 
 // A task, as its row of the file has it; times in ticks.
-#[derive(Drop)]
+#[derive(Clone, Copy)]
 pub struct Task {
     pub wcet: u32,
     pub period_min: u32,

@@ -7,7 +7,7 @@ use super::record::Task;
 use super::words::word4_at;
 
 // What a row of the file holds: a task, or its refusal.
-#[derive(Drop)]
+#[derive(Clone, Copy)]
 pub enum Row {
     Decoded(Task),
     Refused(Fault),

@@ -1,3 +1,5 @@
+#![tactic(auto)]
+
 // Program `planform`: a plan file from standard input, its canonical form to standard output; a refusal to standard
 // error. Two accepted files hold the same plan exactly when their forms are equal.
 ghost use Rattle.std.specs.Prelude.{◌≡◌, ◌≤◌, length, take};

@@ -1,3 +1,5 @@
+#![tactic(auto)]
+
 // Response-time analysis at given periods.
 mod schedulability; // schedulability.rt: all tasks at once
 mod climb; // climb.rt: demand and response time of one task

@@ -1,3 +1,5 @@
+#![tactic(auto)]
+
 // Program `timetable`: a plan file from standard input, its listing to standard output. A program has no exit status,
 // so what goes wrong is said on standard error.
 use libc::{STDERR_FILENO, STDOUT_FILENO};

@@ -1,3 +1,5 @@
+#![tactic(auto)]
+
 // BEST in DESK's block: what bench/ and checks/ call until DESK itself carries the incumbent.
 mod call; // call.rt: the exported call
 
