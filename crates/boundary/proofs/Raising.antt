@@ -1,5 +1,5 @@
 -- The maximal unschedulable assignment as the code makes it: what holds while it is raised, and one law for each turn.
-use mathlib.Core.Path.{◌≡◌, refl, sym, ◌∙◌}
+use mathlib.Core.Path.{◌≡◌, refl, sym, subst, ◌∙◌}
 use mathlib.Core.Bool.{Bool, true, false}
 use mathlib.Core.Logic.{inl, inr}
 use mathlib.Core.List.{List}
@@ -133,7 +133,7 @@ module _ {ts : List Task} {node : List ℕ} where
 
       raising-on : {u' : List ℕ} {met' : Bool} → Raised ts u i most u' → met' ≡ first_meet ts u' (suc i)
           → Raising ts node (i + 1) u' met'
-      raising-on {u'} r m =
+      raising-on {u'} {met'} r m =
           let z : length node - i ≡ suc (length node - suc i) = omega (arith, g.sized) in
           let f : schedulable ts (set u i r.value) ≡ false = rw r.is at r.fails in
           let under : r.value ≤ get_or (period_maxs ts) i 0 = omega (arith, r.upto, top) in
@@ -147,7 +147,7 @@ module _ {ts : List Task} {node : List ℕ} where
             };
             sized = omega (arith, g.sized, length-set u i r.value);
             above = omega (arith, g.sized);
-            meet = rw r.is at m;
+            meet = subst (λ (x : List ℕ). met' ≡ first_meet ts x (suc i)) r.is m;
             leads =
                 rw (← raised_is (schedulable ts) u i r.value f (period_maxs ts) r.above under (rw top at r.past))
                 (rw z at g.leads);

@@ -13,7 +13,7 @@ fn greater(a: u32, b: u32) -> u32
 }
 
 // The last period at which a deadline is missed, and a response time right past it.
-#[derive(Drop)]
+#[derive(Clone, Copy)]
 pub struct Miss {
     pub last: u32,
     pub response: u32,

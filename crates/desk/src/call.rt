@@ -8,8 +8,7 @@ const WORK: usize = 16_000;
 
 // DESK: the cheapest periods of a file's tasks, or a refusal or a stop, into the caller's block; returns the block's
 // number, or 25 for a block that is not 100 bytes, which is left as it was.
-#[unsafe(no_mangle)]
-pub extern "C" fn desk_call(file: &[u8], block: &mut [u8], budget: u64) -> u32
+pub fn desk_call(file: &[u8], block: &mut [u8], budget: u64) -> u32
     ensures { Calls file.now budget block.old block.new result }
 {
     if block.len() != BLOCK_SIZE {

@@ -1,8 +1,8 @@
 #![tactic(auto)]
 
-// DESK: the answer block and the C interface.
+// DESK: the answer block and the call that fills it.
 mod block; // block.rt: the writer of the block
-mod call; // call.rt: the exported call
+mod call; // call.rt: the call
 
 pub use call::desk_call;
 

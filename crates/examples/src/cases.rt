@@ -6,10 +6,11 @@ use super::list::{all, first, first_mut};
 use super::planner::optimize;
 use super::print::{bytes, labelled, numbers, text};
 use super::words::{byte, number, number_u32, part, piece};
-use libc::STDIN_FILENO;
 use optimizer::Answer;
 use plan::Fault;
 use std::num::wrapping_add_u32;
+
+const STDIN: i32 = 0;
 
 fn name(file: &[u8], task: u32) {
     text(b" [");
@@ -221,6 +222,6 @@ fn try_lines(lines: &[u8]) {
 // The lines of standard input, and nothing past 32,768 bytes.
 pub(crate) fn run() {
     let mut lines = [0u8; 32768];
-    let size = io::read_full(STDIN_FILENO, &mut lines);
+    let size = io::read_full(STDIN, &mut lines);
     try_lines(&lines[..size]);
 }

@@ -1,15 +1,16 @@
 use super::list::at;
 use super::words::{byte, piece};
-use libc::STDOUT_FILENO;
+
+const STDOUT: i32 = 1;
 
 pub(crate) fn text(s: &[u8]) {
-    io::write_all(STDOUT_FILENO, s);
+    io::write_all(STDOUT, s);
 }
 
 // A number behind a space.
 fn number(n: u64) {
     text(b" ");
-    io::print_decimal(STDOUT_FILENO, n);
+    io::print_decimal(STDOUT, n);
 }
 
 pub(crate) fn numbers(list: &[u32]) {
@@ -27,7 +28,7 @@ pub(crate) fn bytes(list: &[u8]) {
     }
     let mut i: usize = 0;
     while i < list.len() {
-        io::print_hex(STDOUT_FILENO, byte(list, i) as u64, 2);
+        io::print_hex(STDOUT, byte(list, i) as u64, 2);
         i += 1;
     }
 }

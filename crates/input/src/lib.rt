@@ -3,7 +3,7 @@
 // What a program is given on standard input.
 ghost use Rattle.io.specs.Counts.{IsPrefixLen};
 
-use libc::STDIN_FILENO;
+use std::io::{Read, Stdin};
 
 // How many bytes came, and whether a read failed.
 #[derive(Drop)]
@@ -13,17 +13,18 @@ pub struct Input {
 }
 
 // Reads standard input until the buffer is full, the input ends or a read fails.
-pub fn read_input(buffer: &mut [u8]) -> Input
+pub fn read_input(mut stdin: Stdin, buffer: &mut [u8]) -> Input
     ensures { IsPrefixLen result.size buffer.new }
 {
     let mut size: usize = 0;
     while size < buffer.len() {
-        let got = libc::read(STDIN_FILENO, &mut buffer[size..]);
-        let more = io::count(got, &buffer[size..]);
+        let Ok(more) = stdin.read(&mut buffer[size..]) else {
+            return Input { size, failed: true };
+        };
         if more == 0 {
             return Input {
                 size,
-                failed: got < 0,
+                failed: false,
             };
         }
         size += more;

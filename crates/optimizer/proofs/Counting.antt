@@ -1,5 +1,5 @@
 -- The assignments within the bounds, listed and counted.
-use mathlib.Core.Path.{◌≡◌, refl, ap}
+use mathlib.Core.Path.{◌≡◌, refl, ap, subst}
 use mathlib.Core.Bool.{Bool, true, false, cond}
 use mathlib.Core.Logic.{inl, inr}
 use mathlib.Core.List.{List, [], ◌∷◌, ◌++◌, map}
@@ -42,7 +42,7 @@ length-assignments (t ∷ ts) = rw (length-spread, length-assignments ts)
 listed-fronted : (x : ℕ) (p : List ℕ) (ps : List (List ℕ)) → Listed p ps → Listed (x ∷ p) (fronted x ps)
 listed-fronted x p [] h = h
 listed-fronted x p (q ∷ ps) h = elim (listed-cases p q ps h) [
-  | inl e ↦ rw e (listed_here (x ∷ q) (fronted x ps))
+  | inl e ↦ subst (λ (r : List ℕ). Listed (x ∷ p) ((x ∷ r) ∷ fronted x ps)) e (listed_here (x ∷ p) (fronted x ps))
   | inr e ↦ omega (arith, listed-fronted x p ps e)
 ]
 

@@ -97,6 +97,16 @@ last_set : (ps : List (List ℕ)) (k c : ℕ) (q : List ℕ) → k < length ps �
 last_set ps k c q h e =
     elim (eq-or-ne c k) [ inl t ↦ rw t (get_or-set_same ps k q [] h) | inr t ↦ get_or-set_other ps k c q [] t ∙ e ]
 
+-- the last node in the place of node k, and off the end: node k is no longer listed
+last-moved : (ps rest : List (List ℕ)) (k : ℕ) {r : List ℕ} (p q : List ℕ) → k < length ps → get_or ps k [] ≡ r
+    → set ps k q ≡ rest ++ (q ∷ []) → occurrences p rest ≡ occurrences p (without r ps)
+last-moved ps rest k {r} p q h at_k e =
+    let s = rw at_k at (occurrences-set p ps k q h) in
+    let w = occurrences-without p r ps in
+    let t : occurrences p (set ps k q) ≡ occurrences p rest + occurrences p (q ∷ []) =
+    ap (occurrences p) e ∙ occurrences-append p rest (q ∷ []) in
+    omega arith
+
 -- the last node moved into stretch k: the one that was there is no longer open
 nodes-remove : (count n : ℕ) (work : List ℕ) (k : ℕ) → k < count → count * n ≤ length work
     → SameNodes (nodes (count - 1) n (put work (k * n) (node_at work n (count - 1)))) (without (node_at work n k) (nodes count n work))
@@ -112,15 +122,7 @@ nodes-remove (suc count) n work k h r p =
     let m : node_at v n count ≡ q = sym (nodes-at (suc count) n v count (omega arith)) ∙ ap (λ x. get_or x count []) e
     ∙ last_set ps k count q l (nodes-at (suc count) n work count (omega arith)) in
     let t : nodes (suc count) n v ≡ nodes count n v ++ (q ∷ []) = nodes-suc count n v ∙ ap (λ x. nodes count n v ++ (x ∷ [])) m in
-    rw (d, ← nodes-at (suc count) n work k h)
-    (omega (
-      arith,
-      occurrences-without p (get_or ps k []) ps,
-      occurrences-set p ps k q l,
-      occurrences-append p (nodes count n v) (q ∷ []),
-      ap (occurrences p) (sym t ∙ e),
-      listed_at ps k l,
-    ))
+    rw d (last-moved ps (nodes count n v) k p q l (nodes-at (suc count) n work k h) (sym e ∙ t))
 
 pub nodes-removed : (count n : ℕ) (work : List ℕ) (k : ℕ) → k < count → count * n ≤ length work
     → {q work' : List ℕ} → q ≡ node_at work n (count - 1) → work' ≡ put work (k * length q) q

@@ -6,7 +6,7 @@ use plan::Fault;
 
 // CHEAPEST's and BEST's answer: the number with its place, the cost of an answer and, from BEST, of a stop, the rounds,
 // and the bound of a stop.
-#[derive(Drop)]
+#[derive(Clone, Copy)]
 pub struct Answer {
     pub fault: Fault,
     pub cost: u64,

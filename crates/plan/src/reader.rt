@@ -18,7 +18,7 @@ pub struct Read {
 }
 
 // A plan and the offset of its names, or the refusal of its file with a plan of no task.
-#[derive(Drop)]
+#[derive(Clone, Copy)]
 pub struct Loaded {
     pub fault: Fault,
     pub plan: Plan,

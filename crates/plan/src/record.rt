@@ -17,7 +17,7 @@ pub struct Task {
 
 // A plan: how many tasks, and their table of rows, highest priority first; the inner functions of the later layers are
 // lent the rows.
-#[derive(Drop)]
+#[derive(Clone, Copy)]
 pub struct Plan {
     pub tasks: usize,
     pub table: [u32; Plan::TABLE],

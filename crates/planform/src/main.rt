@@ -8,8 +8,9 @@ ghost use Rattle.plan.specs.Files.{file_fault};
 ghost use Rattle.plan.specs.Canonical.{canonical_of};
 ghost use Rattle.plan.specs.Promises.{max_form};
 
-use libc::{STDERR_FILENO, STDOUT_FILENO};
 use plan::{Fault, Plan, Written};
+use std::env::{Env, FillError};
+use std::io::{Print, Stderr};
 
 // The form at the start of a buffer that holds any: a first call, with no space, tells its size.
 fn write_form(file: &[u8], out: &mut [u8]) -> Written
@@ -23,37 +24,38 @@ fn write_form(file: &[u8], out: &mut [u8]) -> Written
     plan::write_plan(file, &mut out[..size])
 }
 
-fn refuse(fault: Fault) {
+fn refuse(stderr: Stderr, fault: Fault) {
     let mut text = [0u8; listing::REFUSAL_SIZE];
     let end = listing::list_refusal(fault, &mut text);
-    io::write_all(STDERR_FILENO, &text[..end]);
+    let _ = stderr.write_all(&text[..end]);
 }
 
-fn answer(file: &[u8]) {
+fn answer(rt: HostRuntime, file: &[u8]) {
     let mut out = [0u8; Plan::MAX_FORM];
     let written = write_form(file, &mut out);
     let fault = written.fault;
     if fault.number != 0 {
-        refuse(fault);
+        refuse(rt.stderr(), fault);
         return;
     }
     let size = written.size;
-    if !io::write_all(STDOUT_FILENO, &out[..size]) {
-        io::write_all(STDERR_FILENO, b"planform: cannot write\n");
+    if rt.stdout().write_all(&out[..size]).is_err() {
+        let _ = rt.stderr().write_all(b"planform: cannot write\n");
     }
 }
 
-fn main() {
-    if 1 < os::arg_count() {
-        io::write_all(STDERR_FILENO, b"usage: planform < PLAN\n");
+fn main(rt: HostRuntime) {
+    let stderr = rt.stderr();
+    let Err(FillError::NotPresent) = rt.arg(1, &mut [0u8; 0]) else {
+        let _ = stderr.write_all(b"usage: planform < PLAN\n");
         return;
-    }
+    };
     let mut file = [0u8; listing::INPUT_SIZE];
-    let input = input::read_input(&mut file);
+    let input = input::read_input(rt.stdin(), &mut file);
     if input.failed {
-        io::write_all(STDERR_FILENO, b"planform: cannot read\n");
+        let _ = stderr.write_all(b"planform: cannot read\n");
         return;
     }
     let size = input.size;
-    answer(&file[..size]);
+    answer(rt, &file[..size]);
 }

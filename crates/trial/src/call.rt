@@ -7,8 +7,7 @@ use plan::Plan;
 const WORK: usize = 16_000;
 
 // DESK's call with BEST in place of CHEAPEST: a stop's cost and periods in the block are the incumbent's.
-#[unsafe(no_mangle)]
-pub extern "C" fn best_call(file: &[u8], block: &mut [u8], budget: u64) -> u32
+pub fn best_call(file: &[u8], block: &mut [u8], budget: u64) -> u32
     ensures { BestCalls file.now budget block.old block.new result }
 {
     if block.len() != BLOCK_SIZE {

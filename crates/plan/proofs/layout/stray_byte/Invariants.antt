@@ -1,5 +1,4 @@
-use Prim.Native.Nat.{◌-◌}
-use lib.ListN.{length}
+use Rattle.std.proofs.Common.{◌-◌, length}
 use Rattle.plan.proofs.Gaps.{Clear}
 use Rattle.plan.proofs.layout.stray_byte.Given as goal
 

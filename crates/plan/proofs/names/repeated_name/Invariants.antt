@@ -1,5 +1,4 @@
-use mathlib.Core.Path.{◌≡◌}
-use Prim.Native.Nat.{◌-◌}
+use Rattle.std.proofs.Common.{◌≡◌, ◌-◌}
 use Rattle.plan.specs.Faults.{first_from}
 use Rattle.plan.specs.Layout.{task_count}
 use Rattle.plan.specs.Files.{repeat_fault, same_name_fault}

@@ -1,5 +1,4 @@
-use mathlib.Core.Path.{◌≡◌}
-use Prim.Native.Nat.{◌-◌, ◌≤◌}
+use Rattle.std.proofs.Common.{◌≡◌, ◌-◌, ◌≤◌}
 use Rattle.plan.specs.Lists.{same}
 use Rattle.plan.specs.Layout.{name_width}
 use Rattle.plan.specs.Inner.{same_fields}
@@ -8,7 +7,8 @@ use Rattle.plan.proofs.names.same_field.Given as goal
 
 abbrev pub invariant-loop-k : goal.invariant-loop-k
 invariant-loop-k l =
-    (l.k ≤ name_width) × (same_fields l.file l.a l.b ≡ same (field_from l.file l.a name_width l.k) (field_from l.file l.b name_width l.k))
+    (l.k ≤ name_width)
+    × (same_fields l.file l.a l.b ≡ same (field_from l.file l.a name_width l.k) (field_from l.file l.b name_width l.k))
 
 abbrev pub decreases-loop-k : goal.decreases-loop-k
 decreases-loop-k l = name_width - l.k

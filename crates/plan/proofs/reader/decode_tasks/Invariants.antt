@@ -1,4 +1,4 @@
-use Prim.Native.Nat.{◌-◌}
+use Rattle.std.proofs.Common.{◌-◌}
 use Rattle.plan.proofs.Decoding.{Decoding}
 use Rattle.plan.proofs.reader.decode_tasks.Given as goal
 

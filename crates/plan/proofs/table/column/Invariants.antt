@@ -1,4 +1,4 @@
-use Prim.Native.Nat.{◌-◌}
+use Rattle.std.proofs.Common.{◌-◌}
 use Rattle.plan.specs.Table.{column_in}
 use Rattle.plan.proofs.Fill.{Filled}
 use Rattle.plan.proofs.table.column.Given as goal

@@ -1,5 +1,4 @@
-use Prim.Native.Nat.{◌-◌, ◌*◌, ◌≤◌}
-use lib.ListN.{length}
+use Rattle.std.proofs.Common.{◌-◌, ◌*◌, ◌≤◌, length}
 use Rattle.plan.specs.Words.{words_of}
 use Rattle.plan.proofs.Joined.{Stored}
 use Rattle.plan.proofs.words.put_words.Given as goal

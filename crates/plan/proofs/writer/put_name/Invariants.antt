@@ -1,4 +1,4 @@
-use Prim.Native.Nat.{◌-◌, ◌≤◌}
+use Rattle.std.proofs.Common.{◌-◌, ◌≤◌}
 use Rattle.plan.specs.Layout.{name_width}
 use Rattle.plan.specs.Canonical.{name_bytes}
 use Rattle.plan.proofs.Joined.{Stored}

@@ -1,4 +1,4 @@
-use Prim.Native.Nat.{◌-◌, ◌*◌, ◌≤◌}
+use Rattle.std.proofs.Common.{◌-◌, ◌*◌, ◌≤◌}
 use Rattle.plan.specs.Layout.{header_width, row_size}
 use Rattle.plan.specs.Table.{tasks_in}
 use Rattle.plan.specs.Canonical.{rows_bytes}
@@ -7,7 +7,8 @@ use Rattle.plan.proofs.writer.put_rows.Given as goal
 
 abbrev pub invariant-loop-i : goal.invariant-loop-i
 invariant-loop-i l =
-    (l.i ≤ l.n) × Stored (rows_bytes l.version (tasks_in l.tasks)) header_width l.initial.out l.out (row_size l.version * l.i)
+    (l.i ≤ l.n)
+    × Stored (rows_bytes l.version (tasks_in l.tasks)) header_width l.initial.out l.out (row_size l.version * l.i)
 
 abbrev pub decreases-loop-i : goal.decreases-loop-i
 decreases-loop-i l = l.n - l.i

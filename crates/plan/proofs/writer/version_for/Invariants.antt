@@ -1,6 +1,4 @@
-use mathlib.Core.Path.{◌≡◌}
-use Prim.Native.Nat.{◌-◌}
-use lib.ListN.{drop}
+use Rattle.std.proofs.Common.{◌≡◌, ◌-◌, drop}
 use Rattle.plan.specs.Table.{tasks_in}
 use Rattle.plan.specs.Canonical.{version_for}
 use Rattle.plan.proofs.writer.version_for.Given as goal
