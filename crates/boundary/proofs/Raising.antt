@@ -1,5 +1,5 @@
 -- The maximal unschedulable assignment as the code makes it: what holds while it is raised, and one law for each turn.
-use mathlib.Core.Path.{◌≡◌, refl, sym, subst, ◌∙◌}
+use mathlib.Core.Path.{◌≡◌, refl, sym, ap, ◌∙◌}
 use mathlib.Core.Bool.{Bool, true, false}
 use mathlib.Core.Logic.{inl, inr}
 use mathlib.Core.List.{List}
@@ -147,7 +147,7 @@ module _ {ts : List Task} {node : List ℕ} where
             };
             sized = omega (arith, g.sized, length-set u i r.value);
             above = omega (arith, g.sized);
-            meet = subst (λ (x : List ℕ). met' ≡ first_meet ts x (suc i)) r.is m;
+            meet = m ∙ ap (λ (x : List ℕ). first_meet ts x (suc i)) r.is;
             leads =
                 rw (← raised_is (schedulable ts) u i r.value f (period_maxs ts) r.above under (rw top at r.past))
                 (rw z at g.leads);

@@ -1,5 +1,5 @@
 -- The search with the incumbent in the periods' space, where it is kept: how it begins and goes on, and how each way out ends it.
-use mathlib.Core.Path.{◌≡◌, refl, ap, ◌∙◌}
+use mathlib.Core.Path.{◌≡◌, refl, sym, ap, ◌∙◌}
 use mathlib.Core.Bool.{Bool, true, false, cond}
 use mathlib.Core.List.{List, []}
 use Prim.Native.Nat.{ℕ, ◌+◌, ◌*◌, ◌/◌, ◌≤◌, ◌<◌}
@@ -19,7 +19,7 @@ use Rattle.optimizer.specs.declared.round.Round.{Round}
 use Rattle.optimizer.specs.Rule.{Rule, End, ended, least}
 use Rattle.optimizer.specs.Search.{rule, improved, incumbent_rule, incumbent_search}
 use Rattle.optimizer.specs.Promises.{room_of}
-use Rattle.optimizer.specs.Inner.{nodes, put, Weighed, Goes, Rounds, Concludes, Searchable, stop_cost, ended_by, Ends}
+use Rattle.optimizer.specs.Inner.{nodes, put, Weighed, Goes, Rounds, Concludes, Searchable, Improvable, stop_cost, ended_by, Ends}
 use Rattle.optimizer.proofs.Scans.{weighed}
 use Rattle.optimizer.proofs.Settled.{sound}
 use Rattle.optimizer.proofs.Improving.{Incumbent, incumbent-first, lawful-incumbent}
@@ -125,6 +125,14 @@ module _ {ts : List Task} {keeps : Bool} {goal : End (List ℕ)} {budget room si
 
     pub searching-costs : d.node.cost ≡ cost (weights ts) (take n d.node.periods)
     searching-costs = rw taken_is y.costs
+
+    pub searching-improves : Improvable ts keeps p total (take n d.node.periods) d.node.cost
+    searching-improves = record {
+      lowers = searching-lowers;
+      sized = g.sized ∙ sym en ∙ searching-node;
+      best_costs = g.costs;
+      node-costs = searching-costs;
+    }
 
     module _ {p' : List ℕ} (ep : p' ≡ cond keeps (improved ts (schedulable ts) p (take n d.node.periods)) p)
         {c : ℕ} (ec : c ≡ stop_cost ts keeps p') where

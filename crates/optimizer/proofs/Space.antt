@@ -12,7 +12,7 @@ use borrow.Rule.Slice.PartMut.{put_mid}
 use Rattle.plan.proofs.Tests.{eq-or-ne}
 use Rattle.optimizer.specs.Nodes.{occurrences, without, SameNodes}
 use Rattle.optimizer.specs.Inner.{node_at, nodes, put}
-use Rattle.optimizer.proofs.Multiset.{listed_at, occurrences-append, occurrences-set, occurrences-without}
+use Rattle.optimizer.proofs.Multiset.{occurrences-append, occurrences-set, occurrences-without}
 
 pub length-nodes : (count n : ℕ) (work : List ℕ) → length (nodes count n work) ≡ count
 length-nodes zero n work = refl

@@ -10,7 +10,8 @@ use Rattle.boundary.proofs.lowering.lower_all.Given as goal
 abbrev pub invariant-loop-i : goal.invariant-loop-i
 invariant-loop-i l =
     let ts = tasks_in l.tasks in
-    (l.n ≡ length l.x) × Lowering ts l.node (lowering_from (length l.node) (schedulable ts) l.node l.initial.x 0) l.i l.x l.cost l.own l.start
+    let goal = lowering_from (length l.node) (schedulable ts) l.node l.initial.x 0 in
+    (l.n ≡ length l.x) × Lowering ts l.node goal l.i l.x l.cost l.own l.start
 
 abbrev pub decreases-loop-i : goal.decreases-loop-i
 decreases-loop-i l = l.n - l.i
