@@ -14,21 +14,21 @@ passes {ts = ts} {xs = xs} {space = space} e z = passed-periods ts xs space (sym
 
 pub analyse-requires : goal.analyse-requires
 analyse-requires c =
-    let p = passes c.periods_fault-fault.ensures c.if-fault-ne0.false in (
+    let p = passes c.periods_fault-fault.ensures (omega arith) in (
       limits-within (plan_tasks c.args.loaded.plan) c.requires.valid p.within (omega (arith, c.requires.count)),
       p.sized ∙ sym p.within.sized,
     )
 
 pub missed_count-requires : goal.missed_count-requires
 missed_count-requires c =
-    omega (arith, (passes c.periods_fault-fault.ensures c.if-fault-ne0.false).sized, c.requires.count)
+    omega (arith, (passes c.periods_fault-fault.ensures (omega arith)).sized, c.requires.count)
 
 pub first_missed-requires : goal.first_missed-requires
 first_missed-requires c =
-    omega (arith, (passes c.periods_fault-fault.ensures c.if-fault-ne0.false).sized, c.requires.count)
+    omega (arith, (passes c.periods_fault-fault.ensures (omega arith)).sized, c.requires.count)
 
 pub returns : goal.returns
 returns c =
-    analysed c.if-refusal-ne0.false c.periods_fault-fault.ensures c.requires.valid c.if-fault-ne0.false
+    analysed c.if-refusal-ne0.false c.periods_fault-fault.ensures c.requires.valid (omega arith)
     c.analyse.ensures
     (rw (c.none.ensures, c.missed_count.ensures, c.first_missed.ensures))
