@@ -19,6 +19,9 @@ const BUDGET: u64 = 100_000;
 
 const WORK: usize = 16_000;
 
+// From this number on a call stopped, and has a bound.
+const FIRST_STOP: u32 = 33;
+
 // The listing of a file that was loaded, with spaces for the periods and the response times of its tasks.
 fn list_with(
     file: &[u8],
@@ -40,7 +43,7 @@ fn list_with(
         let head = put_rounds(out, 0, b"cost", answer.cost, answer.rounds);
         return put_tasks(out, head, file, loaded.names, periods, times);
     }
-    if fault.number < 33 {
+    if fault.number < FIRST_STOP {
         return put_refusal(out, fault, b'\n');
     }
     let head = put_refusal(out, fault, b' ');

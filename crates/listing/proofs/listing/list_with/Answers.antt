@@ -11,12 +11,12 @@ returns-then-fault-eq0 c =
     lists-answer c.requires c.cheapest_of-answer.ensures c.if-fault-eq0.true c.times_of.ensures
     c.put_rounds-head.ensures c.put_tasks.ensures
 
-pub returns-then-fault-lt33 : goal.returns-then-fault-lt33
-returns-then-fault-lt33 c =
-    lists-refusal c.requires c.cheapest_of-answer.ensures c.if-fault-eq0.false c.if-fault-lt33.true
+pub returns-then-fault-lt-FIRST_STOP : goal.returns-then-fault-lt-FIRST_STOP
+returns-then-fault-lt-FIRST_STOP c =
+    lists-refusal c.requires c.cheapest_of-answer.ensures c.if-fault-eq0.false c.if-fault-lt-FIRST_STOP.true
     c.put_refusal.ensures
 
 pub returns : goal.returns
 returns c =
-    lists-stop c.requires c.cheapest_of-answer.ensures c.if-fault-lt33.false c.put_refusal-head.ensures
+    lists-stop c.requires c.cheapest_of-answer.ensures c.if-fault-lt-FIRST_STOP.false c.put_refusal-head.ensures
     c.put_rounds.ensures
