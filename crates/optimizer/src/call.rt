@@ -40,6 +40,9 @@ fn alone_fault(tasks: &[u32]) -> Fault
     Fault::none()
 }
 
+// What stands for a task where there is none: tasks are counted from 1.
+const NO_TASK: u32 = 0;
+
 // Rules 31 and 32, then the search, of which the work space keeps no trace.
 fn conclude(
     tasks: &[u32],
@@ -61,7 +64,7 @@ fn conclude(
     let n = periods.len();
     let longest = plan::column(tasks, Plan::PERIOD_MAX);
     let missed = first_unschedulable(tasks, &longest[..n]);
-    if missed != 0 {
+    if NO_TASK < missed {
         return Answer::refused(Fault {
             number: 32,
             place: missed,

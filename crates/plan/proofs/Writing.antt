@@ -64,7 +64,7 @@ plan-few {s} p = rw p.tasks (tasks-few s)
 
 -- what an accepted file's tasks say of its form: the version that they need, how many they are, and how many bytes their rows have
 module _ (s : List ℕ) {names : ℕ} {ts : List Task} (p : HasPlan s names ts)
-    {v n rows : ℕ} (vs : v ≡ version_for ts) (count : n ≡ length ts) (type_size : rows ≡ row_size v * n) where
+    {v n rows : ℕ} (vs : v ≡ version_for ts) (count : n ≡ length ts) (size_of : rows ≡ row_size v * n) where
   counted : n ≡ task_count s
   counted = count ∙ ap length p.tasks ∙ tasks-length s p.accepts
 
@@ -75,7 +75,7 @@ module _ (s : List ℕ) {names : ℕ} {ts : List Task} (p : HasPlan s names ts)
   size = names_at + name_width * n
 
   size_is : size ≡ length (canonical_of s)
-  size_is = rw (form-size s p.accepts, ← p.tasks, ← vs, ← counted, type_size)
+  size_is = rw (form-size s p.accepts, ← p.tasks, ← vs, ← counted, size_of)
 
   -- WRITE's answers where the space has the wrong length, and where the form is written
   module _ (o : List ℕ) where
@@ -85,7 +85,7 @@ module _ (s : List ℕ) {names : ℕ} {ts : List Task} (p : HasPlan s names ts)
     pub has-rows : {headed : List ℕ} → length o ≡ size → headed ≡ sets o 0 (header_bytes v n names_at size) → HasRows v ts headed
     has-rows {headed} h first =
         let e = ap length first ∙ length-sets o 0 (header_bytes v n names_at size) in
-        let r : rows ≡ row_size v * length ts = rw (← count) type_size in
+        let r : rows ≡ row_size v * length ts = rw (← count) size_of in
         record { few = plan-few p; fits = omega arith }
 
     module _ {headed rowed : List ℕ} (h : length o ≡ size) (first : headed ≡ sets o 0 (header_bytes v n names_at size))
@@ -100,7 +100,7 @@ module _ (s : List ℕ) {names : ℕ} {ts : List Task} (p : HasPlan s names ts)
       form-written =
           let ns = names_of s in
           let w : Formable ts ns = rw p.tasks (formable s p.accepts) in
-          let m : names_at ≡ rows_to ts = rw (type_size, vs, count) (sym (ap (λ k. header_width + k) (rows-length (version_for ts) ts))) in
+          let m : names_at ≡ rows_to ts = rw (size_of, vs, count) (sym (ap (λ k. header_width + k) (rows-length (version_for ts) ts))) in
           let k : size ≡ names_to ts ns = omega (arith, m, names-length ns w.names, w.count) in
           rw (second, first, k, m, count, vs) (form-stored ts ns w o (h ∙ k) ∙ sym (form_of s p.accepts ∙ ap (λ ts. canonical ts ns) (sym p.tasks)))
 
