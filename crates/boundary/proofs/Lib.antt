@@ -1,5 +1,6 @@
 -- Laws of the boundary between unschedulable and schedulable assignments, by subject.
 pub mod Maximal  -- maximal unschedulable assignments
+mod Found  -- response times, found or none
 mod OnePeriod  -- deadlines as one period changes
 mod Missing  -- the last period that misses
 mod Raising  -- the raising of a node

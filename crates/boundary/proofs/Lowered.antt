@@ -11,14 +11,14 @@ use lib.Dec.{eqb}
 use lib.ListN.{length, get_or, set, length-set, length-map}
 use lib.Seq.{get_or-set_same, get_or-set_other, set-get_or, ext_get_or}
 use borrow.Author.Tests.{leb-true, le-leb, lt-leb, ne_eqb}
-use Rattle.plan.specs.declared.record.Task.{Task}
+use Rattle.plan.specs.declared.tasks.Task.{Task}
 use Rattle.plan.specs.Tasks.{max_tasks, max_ticks, max_weight, task_at, AllValid, period_mins, period_maxs, weights}
 use Rattle.plan.proofs.Tests.{bool, le-or-lt, eq-or-ne, both, not-false}
 use Rattle.plan.proofs.Valid.{valid-at}
 use Rattle.response.specs.Analysis.{own_demand, deadline_at, response_time, schedulable}
 use Rattle.response.specs.Assignments.{cost}
 use Rattle.response.specs.Claims.{Covers}
-use Rattle.response.specs.Inner.{max_time, Limits, Begins, Climbs}
+use Rattle.response.specs.Inner.{max_time, Limits, Begins}
 use Rattle.response.proofs.Dominance.{AtMost, at-least-set, set-mono}
 use Rattle.response.proofs.Bounds.{Within, within-true, true-within, within-set, maxs-within}
 use Rattle.response.proofs.Exactness.{own-some, own-begins}
@@ -29,7 +29,7 @@ use Rattle.response.proofs.Sustainable.{schedulable-all, all-schedulable, begins
 use Rattle.response.proofs.Sustainable.{meets-set as meets-other}
 use Rattle.boundary.specs.Lowering.{lowered_from, lowered, lowering_from, lowering}
 use Rattle.boundary.specs.Misses.{Moved, LastMiss, BeginsAt, SeeksFrom}
-use Rattle.boundary.specs.Inner.{LowersNode, LowersUpTo, Lowers, begin_at, BeginsBelow}
+use Rattle.boundary.specs.Inner.{LowersNode, LowersUpTo, Lowers, begin_at}
 use Rattle.boundary.proofs.OnePeriod.{response-early, response-begins}
 
 -- a schedulable assignment within the bounds, at least the node
@@ -157,10 +157,7 @@ pub record Lowering (ts : List Task) (node goal : List ℕ) (i : ℕ) (x : List 
   pub costs : total ≡ cost (weights ts) fixed
 
 module _ {ts : List Task} {node : List ℕ} where
-  pub lowers-sized : {x : List ℕ} → Lowers ts node x → length x ≡ length ts
-  lowers-sized {x} h = (within-true ts x h.within).sized
-
-  pub lowering-start : {x : List ℕ} → Lowers ts node x → {own : ℕ} → own ≡ own_demand (task_at ts (length x - 1))
+  pub lowering-start : {x : List ℕ} → Lowers ts node x → {own : ℕ} → own ≡ own_demand (task_at ts (length ts - 1))
       → {c : ℕ} → c ≡ cost (weights ts) node → Lowering ts node (lowering_from (length node) (schedulable ts) node x 0) 0 x c 0 own
   lowering-start {x} h e ec =
       let w = within-true ts x h.within in
@@ -172,7 +169,7 @@ module _ {ts : List Task} {node : List ℕ} where
         upto = omega arith;
         early = omega arith;
         begins = λ l. own-begins _ ts x 0 (own-some ts h.given.valid 0 l);
-        lowest = rw e (own-begins _ ts x (length x - 1) (own-some ts h.given.valid (length x - 1) (omega (arith, w.sized, h.given.some))));
+        lowest = rw (w.sized, e) (own-begins _ ts x (length ts - 1) (own-some ts h.given.valid (length ts - 1) (omega (arith, h.given.some))));
         leads = rw (sub-zero (length node));
         fixed = node;
         long = (within-true ts node h.given.bounded).sized;
@@ -212,7 +209,7 @@ module _ {ts : List Task} {node : List ℕ} where
       past = λ l. omega (arith, total-under);
     }
 
-    pub lowering-end : length x ≤ i → {limit : ℕ} → LowersUpTo (weights ts) goal limit x total
+    pub lowering-end : length node ≤ i → {limit : ℕ} → LowersUpTo (weights ts) goal limit x total
     lowering-end h =
         let z : length node - i ≡ 0 = omega (arith, g.meets.within.sized, g.bounded.sized) in
         let e : x ≡ goal = rw z at g.leads in
@@ -223,9 +220,9 @@ module _ {ts : List Task} {node : List ℕ} where
           past = λ l. omega (arith, total-under);
         }
 
-    module _ (l : i < length x) where
+    module _ (l : i < length node) where
       i-inside : i < length ts
-      i-inside = omega (arith, g.meets.within.sized)
+      i-inside = omega (arith, g.bounded.sized)
 
       i-works : 1 ≤ own_demand (task_at ts i)
       i-works = own-some ts g.valid i i-inside
@@ -233,26 +230,18 @@ module _ {ts : List Task} {node : List ℕ} where
       pub node-some : 1 ≤ get_or node i 0
       node-some = some-within ts g.valid g.bounded i i-inside
 
+      inside : i < length x
+      inside = omega (arith, i-inside, g.meets.within.sized)
+
       here : i < length g.fixed
       here = omega (arith, i-inside, g.long)
 
-      pub lowering-node : i < length node
-      lowering-node = omega (arith, i-inside, g.bounded.sized)
-
-      pub lowering-begins : BeginsBelow ts i own
-      lowering-begins = record { valid = g.valid; inside = i-inside; early = g.early }
-
-      pub lowering-climbs : Climbs (deadline_at ts x i) ts x i (begin_at ts i own)
-      lowering-climbs = record {
-        limits = lowering-limits;
-        inside = i-inside;
-        ends = omega (arith, lowering-limits.most i);
-        begins = g.begins i-inside;
-      }
+      pub lowering-responds : 1 ≤ response_time ts x i
+      lowering-responds = leb-true 1 (response_time ts x i) (schedulable-all ts x g.meets.met i i-inside)
 
       module _ {r : ℕ} (is : r ≡ response_time ts x i) where
         some : 1 ≤ r
-        some = rw is (leb-true 1 (response_time ts x i) (schedulable-all ts x g.meets.met i i-inside))
+        some = rw is lowering-responds
 
         early : r ≤ deadline_at ts x i
         early = rw is (response-early (deadline_at ts x i) ts x i i-works)
@@ -262,7 +251,7 @@ module _ {ts : List Task} {node : List ℕ} where
           below = record {
             range = record {
               limits = lowering-limits;
-              inside = l;
+              inside = inside;
               order = omega (arith, g.meets.above i);
               ticks = lowering-limits.most i;
             };
@@ -274,7 +263,7 @@ module _ {ts : List Task} {node : List ℕ} where
 
         module _ {v : ℕ} (m : LastMiss ts x i i (length x) (get_or node i 0 - 1) (get_or x i 0) v) where
           -- the present period meets all deadlines
-          pub last-below : v < get_or x i 0
+          last-below : v < get_or x i 0
           last-below = elim (le-or-lt (get_or x i 0) v) [
             | inl h ↦ let z : v ≡ get_or x i 0 = omega (arith, m.upto) in
                 absurd (both g.meets.met (rw (z, set-get_or x i 0) at (m.misses (omega (arith, g.meets.above i, node-some)))))
@@ -289,9 +278,6 @@ module _ {ts : List Task} {node : List ℕ} where
 
           above : get_or node i 0 ≤ suc v
           above = omega (arith, m.above)
-
-          pub last-above : get_or node i 0 ≤ v + 1
-          last-above = omega (arith, m.above)
 
           -- what the step adds to the cost
           pub step_small : {w : ℕ} → w ≡ (task_at ts i).weight → w * (v + 1 - get_or node i 0) ≤ max_weight * max_ticks
@@ -318,7 +304,7 @@ module _ {ts : List Task} {node : List ℕ} where
               → {w d : ℕ} → w ≡ (task_at ts i).weight → d ≡ v + 1 - get_or node i 0
               → Lowering ts node goal (i + 1) (set x' i (v + 1)) (total + w * d) r s
           lowering-on b o ew ed =
-              let z : length node - i ≡ suc (length node - suc i) = omega (arith, lowering-node) in
+              let z : length node - i ≡ suc (length node - suc i) = omega (arith, l) in
               rw (add-one v, add-one i, o.only (suc v)) (record {
                 valid = g.valid;
                 few = g.few;
@@ -334,7 +320,7 @@ module _ {ts : List Task} {node : List ℕ} where
                 fixed = set g.fixed i (suc v);
                 long = length-set g.fixed i (suc v) ∙ g.long;
                 done = λ j h. elim (eq-or-ne j i) [
-                  | inl q ↦ rw (q, get_or-set_same g.fixed i (suc v) 0 here, get_or-set_same x i (suc v) 0 l) refl
+                  | inl q ↦ rw (q, get_or-set_same g.fixed i (suc v) 0 here, get_or-set_same x i (suc v) 0 inside) refl
                   | inr q ↦ rw (get_or-set_other g.fixed i j (suc v) 0 q, get_or-set_other x i j (suc v) 0 q) (g.done j (omega arith))
                 ];
                 rest = λ j h. get_or-set_other g.fixed i j (suc v) 0 (λ q. omega arith) ∙ g.rest j (omega arith);

@@ -10,17 +10,16 @@ use lib.Dec.{leb}
 use lib.ListN.{length, get_or, set, length-set}
 use lib.Seq.{get_or-set_same, set-set}
 use borrow.Author.Tests.{lt-leb, le-leb, leb-true}
-use Rattle.plan.specs.declared.record.Task.{Task}
+use Rattle.plan.specs.declared.tasks.Task.{Task}
 use Rattle.plan.specs.Tasks.{max_ticks, task_at}
 use Rattle.plan.proofs.Tests.{le-or-lt, eq-or-ne, and_left, and_right}
-use Rattle.response.specs.Analysis.{ceiling, own_demand, deadline_at, response_up_to, response_time, meets}
+use Rattle.response.specs.Analysis.{own_demand, deadline_at, response_up_to, response_time, meets}
 use Rattle.response.specs.Claims.{Covers}
-use Rattle.response.specs.Inner.{max_time, Limits, Climbs}
-use Rattle.response.proofs.Ceiling.{ceiling-some, ceiling-upto}
+use Rattle.response.specs.Inner.{Limits, Climbs}
 use Rattle.response.proofs.Limits.{limits-set}
 use Rattle.response.proofs.Exactness.{own-some, own-begins}
 use Rattle.response.proofs.Sustainable.{covers-above, covers-meets, schedulable-none}
-use Rattle.boundary.specs.Misses.{Range, Moved, LastMiss, BeginsAt, settles, Responds, Seeks, SeeksBetween, SeeksBelow, SeeksFrom}
+use Rattle.boundary.specs.Misses.{Range, Moved, LastMiss, BeginsAt, settles, Responds, Seeks, SeeksBelow, SeeksFrom}
 use Rattle.boundary.proofs.OnePeriod.{alike, alike-le, alike-releases, response-early, deadline-other, own_meets}
 use Rattle.boundary.proofs.OnePeriod.{released-covers, shorter-begins, response-begins}
 
@@ -62,13 +61,6 @@ module _ {ts : List Task} {i : ℕ} where
       upto = l.upto;
       misses = λ o. rw (m.only v) at (l.misses o);
       past = λ j a b y c d. rw (m.only y) at (l.past j a b y c d);
-    }
-
-    responds-moved : {k most v r : ℕ} → Responds ts u i k most v r → Responds ts u' i k most v r
-    responds-moved {k} {v = v} {r} s = record {
-      begins = λ h. rw (m.only (suc v)) (s.begins h);
-      meet = λ j a b h y c d. rw (m.only y)
-          (s.meet j a b (sym (moved-settles j (own_demand (task_at ts k)) r (λ e. omega arith)) ∙ h) y c d);
     }
 
 -- first of the lower tasks, then of those above them
@@ -174,7 +166,6 @@ module _ {ts : List Task} {u : List ℕ} {i k low most : ℕ} where
 
       pub probing-climbs : Climbs limit ts (set u' i p) k response
       probing-climbs = record {
-        limits = probing-moved.limits;
         inside = k-inside q;
         ends = omega (arith, q.limited, q.range.limits.most k);
         begins = rw (g.moved.only p, fixed) (g.begins p a.0 (omega (arith, g.under)) (omega arith));
@@ -183,12 +174,6 @@ module _ {ts : List Task} {u : List ℕ} {i k low most : ℕ} where
       module _ {r : ℕ} (is : r ≡ response_up_to limit ts (set u' i p) k) where
         response-is : r ≡ response_time ts (set u i p) k
         response-is = rw (g.moved.only p, fixed) at is
-
-        pub probing-response : r ≤ max_time
-        probing-response = omega (arith, response-early limit ts (set u' i p) k (works q), probing-climbs.ends)
-
-        pub probing-releases : 1 ≤ r → (1 ≤ ceiling r p) × (ceiling r p ≤ max_ticks)
-        probing-releases s = (ceiling-some r p s (omega arith), omega (arith, ceiling-upto r p (omega arith), probing-response))
 
         pub probing-miss : r ≡ 0 → Probing ts u i k low most limit (set u' i p) p high response (turn + 1)
         probing-miss e = record {
@@ -219,129 +204,63 @@ module _ {ts : List Task} {u : List ℕ} {i k low most : ℕ} where
               begins = λ y c d h. shorter q (response-begins _ ts (set u i p) k (works q) response-is s) y (omega arith) d (omega arith);
             }
 
--- the same of the tasks between task i and task k, from the lowest up: those below task j are done, and so is every other that the
+-- the same of the tasks between task i and task k, from the lowest up: those from task j on are done, and so is every other that the
 -- response time of a task with such an own demand settles
 pub record Between (ts : List Task) (u : List ℕ) (i k low most : ℕ) (u' : List ℕ) (last response own j : ℕ) : Type 0 where
   pub range : Range ts u i low most
   pub inside : k < length u
-  pub above : i ≤ j
-  pub below : j < k
-  pub is : LastMiss ts u i (suc j) k low most last
-  pub meet : (m : ℕ) → i < m → m ≤ j → settles (task_at ts m) (get_or u m 0) own response ≡ true
+  pub above : i < j
+  pub below : j ≤ k
+  pub is : LastMiss ts u i j k low most last
+  pub meet : (m : ℕ) → i < m → m < j → settles (task_at ts m) (get_or u m 0) own response ≡ true
       → (y : ℕ) → last < y → y ≤ most → meets ts (set u i y) m ≡ true
   pub moved : Moved ts i u u'
 
 module _ {ts : List Task} {u : List ℕ} {i k low most : ℕ} where
-  pub between_start : {r own : ℕ} → SeeksBetween ts u i k most low r → own ≡ own_demand (task_at ts k)
-      → Between ts u i k low most u low r own (k - 1)
-  between_start q o = record {
-    range = q.range;
-    inside = q.inside;
-    above = omega (arith, q.below);
-    below = omega (arith, q.below);
-    is = record {
-      above = omega arith;
-      upto = q.range.order;
-      misses = λ l. let z : ⊥ = omega arith in absurd z;
-      past = λ j c d y e f. let z : ⊥ = omega (arith, q.below) in absurd z;
-    };
-    meet = λ m c d s. q.responds.meet m c (omega (arith, q.below)) (rw o at s);
-    moved = moved_none q.range.limits;
-  }
-
-  module _ {u' : List ℕ} {last response own j : ℕ} (g : Between ts u i k low most u' last response own j) where
-    pub between-end : j ≤ i → LastMiss ts u i (suc i) k low most last
-    between-end h = let e : j ≡ i = omega (arith, g.above) in rw e at g.is
-
-    pub between-inside : j < length u'
+  module _ {u' : List ℕ} {last response own j : ℕ} (g : Between ts u i k low most u' last response own j) (h : suc i < j) where
+    between-inside : j - 1 < length u'
     between-inside = omega (arith, g.below, g.inside, moved_length g.range.limits g.moved)
 
-    module _ (h : i < j) where
-      between-on : {u'' : List ℕ} {v r o : ℕ} → LastMiss ts u i j (suc j) last most v → Moved ts i u u''
-          → ((m : ℕ) → i < m → m < j → settles (task_at ts m) (get_or u m 0) o r ≡ true
-          → (y : ℕ) → v < y → y ≤ most → meets ts (set u i y) m ≡ true)
-          → Between ts u i k low most u'' v r o (j - 1)
-      between-on l m s = let e : suc (j - 1) ≡ j = omega arith in record {
-        range = g.range;
-        inside = g.inside;
-        above = omega arith;
-        below = omega (arith, g.below);
-        is = rw e (last-join g.is l);
-        meet = λ x a b. s x a (omega arith);
-        moved = m;
-      }
+    between-on : {u'' : List ℕ} {v r o : ℕ} → LastMiss ts u i (j - 1) (suc (j - 1)) last most v → Moved ts i u u''
+        → ((m : ℕ) → i < m → m < j - 1 → settles (task_at ts m) (get_or u m 0) o r ≡ true
+        → (y : ℕ) → v < y → y ≤ most → meets ts (set u i y) m ≡ true)
+        → Between ts u i k low most u'' v r o (j - 1)
+    between-on l m s = let e : suc (j - 1) ≡ j = omega arith in record {
+      range = g.range;
+      inside = g.inside;
+      above = omega arith;
+      below = omega (arith, g.below);
+      is = last-join g.is (rw e at l);
+      meet = s;
+      moved = m;
+    }
 
-      -- skipped: it is settled
-      pub between-skip : settles (task_at ts j) (get_or u' j 0) own response ≡ true → Between ts u i k low most u' last response own (j - 1)
-      between-skip d = between-on (record {
-        above = omega arith;
-        upto = g.is.upto;
-        misses = λ o. let z : ⊥ = omega arith in absurd z;
-        past = λ m a b y c e. let z : m ≡ j = omega arith in
-            rw z (g.meet j h (omega arith) (sym (moved-settles g.moved j own response (λ q. omega arith)) ∙ d) y c e);
-      }) g.moved (λ m a b. g.meet m a (omega arith))
+    pub between-seeks : {o : ℕ} → o ≡ own_demand (task_at ts (j - 1)) → Seeks ts u' i (j - 1) last most o
+    between-seeks e = record {
+      range = range_moved g.moved g.range g.is.upto;
+      below = omega arith;
+      inside = between-inside;
+      begins = rw e (own-begins _ ts (set u' i most) (j - 1)
+          (own-some ts g.range.limits.valid (j - 1) (omega (arith, between-inside, g.moved.limits.sized))));
+    }
 
-      pub between-seeks : {o : ℕ} → o ≡ own_demand (task_at ts j) → Seeks ts u' i j last most o
-      between-seeks e = record {
-        range = range_moved g.moved g.range g.is.upto;
-        below = h;
-        inside = between-inside;
-        begins = rw e (own-begins _ ts (set u' i most) j
-            (own-some ts g.range.limits.valid j (omega (arith, between-inside, g.moved.limits.sized))));
-      }
-
-      pub between-sought : {u'' : List ℕ} {v r : ℕ} → LastMiss ts u' i j (suc j) last most v → Responds ts u' i j most v r
-          → Moved ts i u' u'' → {o : ℕ} → o ≡ own_demand (task_at ts j) → Between ts u i k low most u'' v r o (j - 1)
-      between-sought {r = r} l s m {o} q = between-on {r = r} {o = o} (last-moved g.moved l) (moved_on g.moved m)
-          (λ x a b d y c e. rw (g.moved.only y) at
-          (s.meet x a b (moved-settles g.moved x _ r (λ z. omega arith) ∙ rw q at d) y c e))
+    pub between-sought : {u'' : List ℕ} {v r : ℕ} → LastMiss ts u' i (j - 1) (suc (j - 1)) last most v
+        → Responds ts u' i (j - 1) most v r → Moved ts i u' u'' → {o : ℕ} → o ≡ own_demand (task_at ts (j - 1))
+        → Between ts u i k low most u'' v r o (j - 1)
+    between-sought {r = r} l s m {o} q = between-on {r = r} {o = o} (last-moved g.moved l) (moved_on g.moved m)
+        (λ x a b d y c e. rw (g.moved.only y) at
+        (s.meet x a b (moved-settles g.moved x _ r (λ z. omega arith) ∙ rw q at d) y c e))
 
 -- the same of all tasks below task i
 module _ {ts : List Task} {u : List ℕ} {i low most start : ℕ} (q : SeeksBelow ts u i low most start) where
   abbrev lowest : ℕ
   lowest = length u - 1
 
-  begins-past : (v : ℕ) → v < most → BeginsAt ts u i (suc v) lowest start
+  pub begins-past : (v : ℕ) → v < most → BeginsAt ts u i (suc v) lowest start
   begins-past v h =
       shorter-begins ts u i lowest
       (λ j l. (limits-set q.range.limits i (suc v) (omega arith) (omega (arith, q.range.ticks))).some j
       (omega (arith, length-set u i (suc v)))) h q.begins
-
-  -- there are none
-  pub below_none : lowest ≤ i → LastMiss ts u i (suc i) (length u) low most low × (low < most → BeginsAt ts u i (suc low) lowest start)
-  below_none h = (
-    record {
-      above = omega arith;
-      upto = q.range.order;
-      misses = λ l. let z : ⊥ = omega arith in absurd z;
-      past = λ j a b y c d. let z : ⊥ = omega arith in absurd z;
-    },
-    begins-past low,
-  )
-
-  module _ (h : i < lowest) where
-    pub below-seeks : Seeks ts u i lowest low most start
-    below-seeks = record { range = q.range; below = h; inside = omega arith; begins = q.begins }
-
-    module _ {u' : List ℕ} {v r : ℕ} (l : LastMiss ts u i lowest (suc lowest) low most v) (s : Responds ts u i lowest most v r)
-        (m : Moved ts i u u') where
-      pub below-between : SeeksBetween ts u' i lowest most v r
-      below-between = record {
-        range = range_moved m q.range l.upto;
-        below = h;
-        inside = omega (arith, moved_length q.range.limits m);
-        responds = responds-moved m s;
-      }
-
-      module _ {x : ℕ} (b : LastMiss ts u' i (suc i) lowest v most x) where
-        pub below_last : LastMiss ts u i (suc i) (length u) low most x
-        below_last = let e : suc lowest ≡ length u = omega arith in rw e at (last-join l (last-moved m b))
-
-        pub below_raised : x < most → BeginsAt ts u i (suc x) lowest start
-        below_raised = begins-past x
-
-        pub below-kept : x ≤ v → (LastMiss ts u i (suc i) (length u) low most v) × (v < most → BeginsAt ts u i (suc v) lowest r)
-        below-kept e = let z : x ≡ v = omega (arith, b.above) in (rw z at below_last, s.begins)
 
 -- the same of task i, too: it meets its deadline from its response time on
 module _ {ts : List Task} {u : List ℕ} {i own low most start : ℕ} (q : SeeksFrom ts u i own low most start) where
@@ -367,7 +286,7 @@ module _ {ts : List Task} {u : List ℕ} {i own low most start : ℕ} (q : Seeks
     begins = q.below.begins;
   }
 
-  pub from-own : (v : ℕ) → v ≤ most → meets ts (set u i v) i ≡ leb own v
+  from-own : (v : ℕ) → v ≤ most → meets ts (set u i v) i ≡ leb own v
   from-own = own_meets ts u i range.inside most i-works q.is q.works
 
   pub from_last : {from v : ℕ} → from ≡ max low (own - 1)

@@ -2,14 +2,16 @@
 use mathlib.Core.Path.{◌≡◌, sym, ap, ◌∙◌}
 use mathlib.Core.Logic.{inl, inr}
 use mathlib.Core.List.{List}
-use Prim.Native.Nat.{ℕ, ◌≤◌, ◌<◌}
+use Prim.Native.Nat.{ℕ, suc, ◌≤◌, ◌<◌}
 use native.Mathlib.Omega.{arith}
-use native.Mathlib.Nat.{le_trans, mul-le-mul_left}
+use native.Mathlib.Nat.{le_trans, mul-le-mul_left, lt_of_mul-lt-mul_right}
 use lib.Dec.{leb}
 use lib.ListN.{length, get_or, set}
 use lib.Seq.{get_or-set_same, get_or-set_other}
 use borrow.Author.Tests.{le-leb, lt-leb}
-use Rattle.plan.specs.declared.record.Task.{Task}
+use Rattle.std.specs.Int.{div_ceil}
+use Rattle.std.proofs.lemmas.Grind.{div_ceil_times}
+use Rattle.plan.specs.declared.tasks.Task.{Task}
 use Rattle.plan.specs.Tasks.{task_at}
 use Rattle.plan.proofs.Tests.{le-or-lt, eq-or-ne, not-false}
 use Rattle.response.specs.Analysis.{ceiling, own_demand, deadline, deadline_at, response_up_to, response_time, meets}
@@ -35,6 +37,17 @@ module _ (t p : ℕ) (s : 1 ≤ t) (h : 1 ≤ p) where
       let m = ceiling-some t p s h in
       ceiling-le t q (ceiling t p) (omega (arith, ceiling-some t (ceiling t p) s m))
       (le_trans (le-ceiling t (ceiling t p) m) (omega (arith, mul-le-mul_left (ceiling t p) l)))
+
+-- as the code computes it
+rounded-up : (a p : ℕ) → 1 ≤ p → div_ceil a p ≡ ceiling a p
+rounded-up a p h =
+    let b = div_ceil_times a p h in
+    let most = ceiling-le a p (div_ceil a p) h b.0 in
+    let least : div_ceil a p < suc (ceiling a p) = lt_of_mul-lt-mul_right p (omega (arith, b.1, le-ceiling a p h)) in
+    omega arith
+
+pub alike-is : (t p : ℕ) → 1 ≤ t → 1 ≤ p → div_ceil t (div_ceil t p) ≡ alike t p
+alike-is t p s h = rw (rounded-up t p h) (rounded-up t (ceiling t p) (ceiling-some t p s h))
 
 -- a response time does not pass its limit
 pub response-early : (limit : ℕ) (ts : List Task) (xs : List ℕ) (i : ℕ) → 1 ≤ own_demand (task_at ts i)

@@ -11,7 +11,7 @@ use lib.Dec.{leb}
 use lib.ListN.{length, get_or, set, length-set}
 use lib.Seq.{set-set, set-get_or}
 use borrow.Author.Tests.{lt-leb}
-use Rattle.plan.specs.declared.record.Task.{Task}
+use Rattle.plan.specs.declared.tasks.Task.{Task}
 use Rattle.plan.specs.Tasks.{max_ticks, task_at, period_maxs}
 use Rattle.plan.proofs.Tests.{le-or-lt, eq-or-ne}
 use Rattle.plan.proofs.Valid.{valid-at}
@@ -26,7 +26,7 @@ use Rattle.boundary.specs.Mua.{mua_from, mua}
 use Rattle.boundary.specs.Misses.{Moved, LastMiss, SeeksFrom}
 use Rattle.boundary.specs.Raising.{Unschedulable, Raises, Raised}
 use Rattle.boundary.proofs.Maximal.{raised_is}
-use Rattle.boundary.proofs.Missing.{from-own}
+use Rattle.boundary.proofs.OnePeriod.{own_meets}
 
 -- raising one period
 module _ (ts : List Task) (u : List ℕ) where
@@ -54,21 +54,19 @@ module _ (ts : List Task) (u : List ℕ) where
   }
 
 module _ {ts : List Task} {u : List ℕ} {i most : ℕ} (h : Raises ts u i most) where
-  pub raises-limits : Limits ts (set u i most)
+  raises-limits : Limits ts (set u i most)
   raises-limits = let r = h.range in limits-set r.limits i most (omega (arith, r.limits.some i r.inside, r.order)) r.ticks
 
-  pub raised-most : 0 ≡ response_time ts (set u i most) i
-      → Raised ts u i most (set u i most) × (false ≡ meets ts (set u i most) i)
+  pub raised-most : response_time ts (set u i most) i ≡ 0 → Raised ts u i most (set u i most)
   raised-most e =
       let r = h.range in
       let m = lt-leb 1 (response_time ts (set u i most) i) (omega arith) in
-      let f = schedulable-none ts (set u i most) i (omega (arith, r.inside, r.limits.sized)) m in
-      (raised-top ts u i r.order f, sym m)
+      raised-top ts u i r.order (schedulable-none ts (set u i most) i (omega (arith, r.inside, r.limits.sized)) m)
 
-  module _ {own start : ℕ} (is : own ≡ response_time ts (set u i most) i) (s : 1 ≤ own)
-      (e : start ≡ own_demand (task_at ts (length (set u i most) - 1))) where
-    pub raises-seeks : SeeksFrom ts (set u i most) i own (get_or u i 0) most start
-    raises-seeks = record {
+  module _ {own : ℕ} (is : own ≡ response_time ts (set u i most) i) (s : 1 ≤ own) where
+    pub raises-seeks : {start : ℕ} → start ≡ own_demand (task_at ts (length ts - 1))
+        → SeeksFrom ts (set u i most) i own (get_or u i 0) most start
+    raises-seeks e = record {
       below = record {
         range = record {
           limits = raises-limits;
@@ -76,9 +74,8 @@ module _ {ts : List Task} {u : List ℕ} {i most : ℕ} (h : Raises ts u i most)
           order = h.range.order;
           ticks = h.range.ticks;
         };
-        begins = rw (set-set u i most most, e) (own-begins _ ts (set u i most) (length (set u i most) - 1)
-            (own-some ts raises-limits.valid (length (set u i most) - 1)
-            (omega (arith, raises-limits.sized, length-set u i most, h.range.inside))));
+        begins = rw (set-set u i most most, raises-limits.sized, e) (own-begins _ ts (set u i most) (length ts - 1)
+            (own-some ts raises-limits.valid (length ts - 1) (omega (arith, h.range.inside, h.range.limits.sized))));
       };
       works = s;
       is = rw (set-set u i most most) is;
@@ -89,6 +86,7 @@ module _ {ts : List Task} {u : List ℕ} {i most : ℕ} (h : Raises ts u i most)
         → Raised ts u i most (set u' i v) × (leb own v ≡ meets ts (set u' i v) i)
     raised-last {u'} {v} l m =
         let once : (y : ℕ) → set (set u i most) i y ≡ set u i y = λ y. set-set u i most y in
+        let inside : i < length ts = omega (arith, h.range.inside, h.range.limits.sized) in
         rw (m.only v ∙ once v) (
           record {
             value = v;
@@ -104,7 +102,7 @@ module _ {ts : List Task} {u : List ℕ} {i most : ℕ} (h : Raises ts u i most)
               | inr e ↦ meets-set ts u j i y e ∙ first-all ts u i h.above j e
             ]);
           },
-          sym (rw (once v) at (from-own raises-seeks v l.upto)),
+          sym (own_meets ts u i h.range.inside most (own-some ts h.range.limits.valid i inside) is s v l.upto),
         )
 
 -- raising all in turn: u is what the code has before task i, and whether all tasks above meet their deadlines
@@ -121,44 +119,40 @@ module _ {ts : List Task} {node : List ℕ} where
   raising-start h = record { held = h; sized = refl; above = omega arith; meet = refl; leads = rw (sub-zero (length node)) }
 
   module _ {i : ℕ} {u : List ℕ} {met : Bool} (g : Raising ts node i u met) where
-    pub raising-end : length u ≤ i → u ≡ mua (schedulable ts) (period_maxs ts) node
-    raising-end h = let z : length node - i ≡ 0 = omega (arith, g.sized) in rw z at g.leads
+    module _ (l : i < length ts) where
+      abbrev most : ℕ
+      most = (task_at ts i).period_max
 
-    module _ (l : i < length u) {most : ℕ} (e : most ≡ (task_at ts i).period_max) where
       top : most ≡ get_or (period_maxs ts) i 0
-      top = e ∙ sym (max-at ts i)
+      top = sym (max-at ts i)
 
       ticks : most ≤ max_ticks
-      ticks = omega (arith, (valid-at ts g.held.limits.valid i).max_most)
+      ticks = (valid-at ts g.held.limits.valid i).max_most
+
+      inside : i < length u
+      inside = omega (arith, l, g.held.limits.sized)
 
       raising-on : {u' : List ℕ} {met' : Bool} → Raised ts u i most u' → met' ≡ first_meet ts u' (suc i)
           → Raising ts node (i + 1) u' met'
       raising-on {u'} {met'} r m =
-          let z : length node - i ≡ suc (length node - suc i) = omega (arith, g.sized) in
+          let z : length node - i ≡ suc (length node - suc i) = omega (arith, inside, g.sized) in
           let f : schedulable ts (set u i r.value) ≡ false = rw r.is at r.fails in
           let under : r.value ≤ get_or (period_maxs ts) i 0 = omega (arith, r.upto, top) in
           let h = g.held in
           rw (r.is, add-one i) (record {
             held = record {
               limits = limits-set h.limits i r.value
-                  (omega (arith, r.above, h.limits.some i l)) (omega (arith, r.upto, ticks));
+                  (omega (arith, r.above, h.limits.some i inside)) (omega (arith, r.upto, ticks));
               high = set-at-most u (period_maxs ts) i h.high under;
               fails = f;
             };
             sized = omega (arith, g.sized, length-set u i r.value);
-            above = omega (arith, g.sized);
+            above = omega (arith, inside, g.sized);
             meet = m ∙ ap (λ (x : List ℕ). first_meet ts x (suc i)) r.is;
             leads =
                 rw (← raised_is (schedulable ts) u i r.value f (period_maxs ts) r.above under (rw top at r.past))
                 (rw z at g.leads);
           })
-
-      pub raising-raises : met ≡ true → Raises ts u i most
-      raising-raises t = let h = g.held in record {
-        range = record { limits = h.limits; inside = l; order = omega (arith, h.high i, top); ticks = ticks };
-        fails = h.fails;
-        above = sym g.meet ∙ t;
-      }
 
       pub raising-met : {u' : List ℕ} {met' : Bool} → met ≡ true → Raised ts u i most u' → met' ≡ meets ts u' i
           → Raising ts node (i + 1) u' met'
@@ -171,5 +165,5 @@ module _ {ts : List Task} {node : List ℕ} where
           let f : first_meet ts (set u i most) i ≡ false = first-set ts u i most i (omega arith) ∙ sym g.meet ∙ t in
           let h = g.held in
           raising-on
-          (raised-top ts u i (omega (arith, h.high i, top)) (first-fails ts (set u i most) i (omega (arith, h.limits.sized)) f))
+          (raised-top ts u i (omega (arith, h.high i, top)) (first-fails ts (set u i most) i (omega (arith, l)) f))
           (rw f t)

@@ -1,6 +1,6 @@
 -- What the functions that lower a node ask and promise.
 use Rattle.std.specs.Prelude.{◌≡◌, true, cond, List, ℕ, ◌+◌, ◌-◌, ◌≤◌, ◌<◌, eqb, leb, length, get_or}
-use Rattle.plan.specs.declared.record.Task.{Task}
+use Rattle.plan.specs.declared.tasks.Task.{Task}
 use Rattle.plan.specs.Tasks.{max_tasks, task_at, AllValid, period_maxs}
 use Rattle.response.specs.Analysis.{own_demand, schedulable}
 use Rattle.response.specs.Assignments.{cost, within_bounds}

@@ -1,6 +1,6 @@
 -- What the functions ask and promise that look for the last period of a task at which deadlines are missed.
 use Rattle.std.specs.Prelude.{◌≡◌, Bool, true, false, ◌&&◌, List, ℕ, suc, ◌-◌, ◌≤◌, ◌<◌, leb, length, get_or, set}
-use Rattle.plan.specs.declared.record.Task.{Task}
+use Rattle.plan.specs.declared.tasks.Task.{Task}
 use Rattle.plan.specs.Tasks.{max_ticks, task_at}
 use Rattle.response.specs.Analysis.{own_demand, deadline, deadline_at, response_time, meets, schedulable}
 use Rattle.response.specs.Inner.{Limits, Begins}

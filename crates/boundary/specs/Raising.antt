@@ -1,6 +1,6 @@
 -- What the functions that find a maximal unschedulable assignment ask and promise.
 use Rattle.std.specs.Prelude.{◌≡◌, true, false, List, ℕ, ◌≤◌, ◌<◌, get_or, set}
-use Rattle.plan.specs.declared.record.Task.{Task}
+use Rattle.plan.specs.declared.tasks.Task.{Task}
 use Rattle.plan.specs.Tasks.{period_maxs}
 use Rattle.response.specs.Analysis.{first_meet, schedulable}
 use Rattle.response.specs.Inner.{Limits}

@@ -9,4 +9,4 @@ mod lowering; // lowering.rt: a schedulable assignment above a node
 // for the layers above
 pub use lowering::lowering_of;
 pub use mua::mua_of;
-pub use node::{Node, read_node};
+pub use node::{Node, copied};

@@ -1,19 +1,15 @@
-ghost use Rattle.std.specs.Prelude.{◌≡◌, suc, ◌+◌, ◌-◌, ◌≤◌, ◌<◌, max, length};
+ghost use Rattle.std.specs.Prelude.{◌≡◌, suc, ◌+◌, ◌-◌, ◌≤◌, ◌<◌, length};
 ghost use Rattle.plan.specs.Tasks.{max_ticks, task_at};
-ghost use Rattle.plan.specs.Table.{tasks_in};
+ghost use Rattle.plan.specs.Promises.{plan_tasks};
+ghost use Rattle.response.specs.Analysis.{own_demand};
 ghost use Rattle.boundary.specs.Misses.{Moved, LastMiss, BeginsAt, Responds, settles};
 ghost use Rattle.boundary.specs.Misses.{Seeks, SeeksBetween, SeeksBelow, SeeksFrom};
 
-use response::{deadline_at, own_demand, response_from, rounded_up};
-
-fn greater(a: u32, b: u32) -> u32
-    ensures { result ≡ max a b }
-{
-    if a < b { b } else { a }
-}
+use plan::{Plan, Task};
+use response::{Assignment, deadline, own_demand};
 
 // The last period at which a deadline is missed, and a response time right past it.
-#[derive(Clone, Copy)]
+#[derive(Clone, Copy, Debug, PartialEq, Eq)]
 pub struct Miss {
     pub last: u32,
     pub response: u32,
@@ -26,19 +22,20 @@ fn probe(low: u32, high: u32, turn: u32) -> u32
     ensures { (low < result) × (result < high) }
 {
     if turn == 0 {
-        return low + 1;
+        low + 1
+    } else if turn % 4 == 3 {
+        low + (high - low) / 2
+    } else {
+        high - 1
     }
-    if turn % 4 == 3 {
-        return low + (high - low) / 2;
-    }
-    high - 1
 }
 
 // The last period of task i, from low to most, at which task k misses its deadline; low where there is none above.
 // Where task k meets its deadline, it meets it down to the least period at which task i runs as often within its
 // response time, and at every shorter period it responds no earlier: its next climb begins there.
+// Plan, task and greatest period stay parameters: as a struct's fields every clause would name them by `self.now`.
 fn last_miss(
-    tasks: &[u32],
+    plan: &Plan,
     u: &mut [u32],
     i: usize,
     k: usize,
@@ -46,83 +43,70 @@ fn last_miss(
     most: u32,
     start: u32,
 ) -> Miss
-    requires { Seeks (tasks_in tasks.now) u.old i k low most start }
-    ensures is { LastMiss (tasks_in tasks.now) u.old i k (suc k) low most result.last }
-    ensures responds { Responds (tasks_in tasks.now) u.old i k most
+    requires { Seeks (plan_tasks plan.now) u.old i k low most start }
+    ensures is { LastMiss (plan_tasks plan.now) u.old i k (suc k) low most result.last }
+    ensures responds { Responds (plan_tasks plan.now) u.old i k most
         result.last result.response }
-    ensures moved { Moved (tasks_in tasks.now) i u.old u.new }
+    ensures moved { Moved (plan_tasks plan.now) i u.old u.new }
 {
-    let deadline = deadline_at(tasks, k, u[k]);
+    let deadline = (Assignment { plan, periods: u }).deadline(k);
     let mut last = low;
     let mut high = most + 1;
     let mut response = start;
     let mut turn: u32 = 0;
+    // No `for`: what is left shrinks by jumps; a turn chooses the next value only.
     while last + 1 < high {
         let period = probe(last, high, turn);
         u[i] = period;
-        let found = response_from(tasks, u, k, deadline, response);
-        if found == 0 {
-            last = period;
-        } else {
-            response = found;
-            high = rounded_up(found, rounded_up(found, period));
+        let assignment = Assignment { plan, periods: u };
+        match assignment.response_from(k, deadline, response) {
+            None => last = period,
+            Some(found) => {
+                response = found;
+                high = found.div_ceil(found.div_ceil(period));
+            }
         }
         turn += 1;
     }
     Miss { last, response }
 }
 
-// Whether a lower task's response time, with its own demand, settles task j at a period.
-fn settles(tasks: &[u32], j: usize, period: u32, own: u32, response: u32) -> bool
-    requires { j < length (tasks_in tasks.now) }
-    ensures { result ≡ settles (task_at (tasks_in tasks.now) j) period own response }
+// Whether a lower task's response time, with its own demand, settles a task at a period.
+fn settles(task: &Task, period: u32, own: u32, response: u32) -> bool
+    ensures { result ≡ settles task.now period own response }
 {
-    if deadline_at(tasks, j, period) < response {
-        return false;
-    }
-    plan::blocking(tasks, j) <= own
+    response <= deadline(task, period) && task.blocking <= own
 }
 
 // The same of the tasks between task i and task k, whose last miss and response time are known: these settle every task
 // whose deadline is not before that time and whose blocking is not above task k's own demand.
-fn last_miss_between(
-    tasks: &[u32],
-    u: &mut [u32],
-    i: usize,
-    k: usize,
-    most: u32,
-    known: Miss,
-) -> u32
-    requires { SeeksBetween (tasks_in tasks.now) u.old i k most known.last known.response }
-    ensures is { let ts = tasks_in tasks.now in
+fn last_miss_between(plan: &Plan, u: &mut [u32], i: usize, k: usize, most: u32, known: Miss) -> u32
+    requires { SeeksBetween (plan_tasks plan.now) u.old i k most known.last known.response }
+    ensures is { let ts = plan_tasks plan.now in
         LastMiss ts u.old i (suc i) k known.last most result }
-    ensures moved { Moved (tasks_in tasks.now) i u.old u.new }
+    ensures moved { Moved (plan_tasks plan.now) i u.old u.new }
 {
-    let mut last = known.last;
-    let mut response = known.response;
-    let mut own = own_demand(tasks, k);
-    let mut j = k - 1;
-    while i < j {
-        if !settles(tasks, j, u[j], own, response) {
-            own = own_demand(tasks, j);
-            let miss = last_miss(tasks, u, i, j, last, most, own);
-            last = miss.last;
-            response = miss.response;
+    let mut miss = known;
+    let mut own = own_demand(&plan.tasks[k]);
+    for j in (i + 1..k).rev() {
+        let task = &plan.tasks[j];
+        if !settles(task, u[j], own, miss.response) {
+            own = own_demand(task);
+            miss = last_miss(plan, u, i, j, miss.last, most, own);
         }
-        j -= 1;
     }
-    last
+    miss.last
 }
 
 // The same of all tasks below task i, the lowest first: it is mostly the one that misses longest. The response time is
 // the lowest one's.
-fn last_miss_below(tasks: &[u32], u: &mut [u32], i: usize, low: u32, most: u32, start: u32) -> Miss
-    requires { SeeksBelow (tasks_in tasks.now) u.old i low most start }
+fn last_miss_below(plan: &Plan, u: &mut [u32], i: usize, low: u32, most: u32, start: u32) -> Miss
+    requires { SeeksBelow (plan_tasks plan.now) u.old i low most start }
     ensures is { let n = length u.old in
-        LastMiss (tasks_in tasks.now) u.old i (suc i) n low most result.last }
+        LastMiss (plan_tasks plan.now) u.old i (suc i) n low most result.last }
     ensures begins { let p = u.old in (result.last < most
-        → BeginsAt (tasks_in tasks.now) p i (suc result.last) (length p - 1) result.response) }
-    ensures moved { Moved (tasks_in tasks.now) i u.old u.new }
+        → BeginsAt (plan_tasks plan.now) p i (suc result.last) (length p - 1) result.response) }
+    ensures moved { Moved (plan_tasks plan.now) i u.old u.new }
 {
     let k = u.len() - 1;
     if k <= i {
@@ -131,21 +115,20 @@ fn last_miss_below(tasks: &[u32], u: &mut [u32], i: usize, low: u32, most: u32, 
             response: start,
         };
     }
-    let lowest = last_miss(tasks, u, i, k, low, most, start);
-    let last = last_miss_between(tasks, u, i, k, most, lowest);
-    if lowest.last < last {
-        return Miss {
-            last,
-            response: start,
-        };
-    }
-    lowest
+    let lowest = last_miss(plan, u, i, k, low, most, start);
+    let last = last_miss_between(plan, u, i, k, most, lowest);
+    let response = if lowest.last < last {
+        start
+    } else {
+        lowest.response
+    };
+    Miss { last, response }
 }
 
 // The same of task i and all tasks below it; own is its response time, in which its own period has no part: it meets
 // its deadline from there on.
 pub fn last_miss_from(
-    tasks: &[u32],
+    plan: &Plan,
     u: &mut [u32],
     i: usize,
     own: u32,
@@ -153,12 +136,19 @@ pub fn last_miss_from(
     most: u32,
     start: u32,
 ) -> Miss
-    requires { SeeksFrom (tasks_in tasks.now) u.old i own low most start }
+    requires { SeeksFrom (plan_tasks plan.now) u.old i own low most start }
     ensures is { let n = length u.old in
-        LastMiss (tasks_in tasks.now) u.old i i n low most result.last }
+        LastMiss (plan_tasks plan.now) u.old i i n low most result.last }
     ensures begins { let p = u.old in (result.last < most
-        → BeginsAt (tasks_in tasks.now) p i (suc result.last) (length p - 1) result.response) }
-    ensures moved { Moved (tasks_in tasks.now) i u.old u.new }
+        → BeginsAt (plan_tasks plan.now) p i (suc result.last) (length p - 1) result.response) }
+    ensures moved { Moved (plan_tasks plan.now) i u.old u.new }
 {
-    last_miss_below(tasks, u, i, greater(low, own - 1), most, start)
+    last_miss_below(plan, u, i, low.max(own - 1), most, start)
+}
+
+// Where the climbs of the lowest task may begin before any of its response times is known.
+pub fn lowest_start(plan: &Plan) -> u32
+    ensures { let ts = plan_tasks plan.now in result ≡ own_demand (task_at ts (length ts - 1)) }
+{
+    own_demand(plan.tasks.last().unwrap())
 }

@@ -1,25 +1,19 @@
-ghost use Rattle.std.specs.Prelude.{◌≡◌, ◌≤◌, length, take};
+ghost use Rattle.std.specs.Prelude.{◌≡◌, ◌≤◌, length};
 ghost use Rattle.plan.specs.Tasks.{max_tasks};
 
-use plan::Plan;
+use plan::PerTask;
 
-// An assignment with its cost: a node taken off the open ones, or a lowering.
+// Periods with their cost: a node taken off the open ones, or a lowering.
 #[derive(Drop)]
 pub struct Node {
     pub cost: u64,
-    pub periods: [u32; Plan::MAX_TASKS],
+    pub periods: PerTask,
 }
 
-// A copy of a node.
-pub fn read_node(node: &[u32]) -> [u32; Plan::MAX_TASKS]
-    requires { length node.now ≤ max_tasks }
-    ensures { take (length node.now) result ≡ node.now }
+// A copy of periods.
+pub fn copied(periods: &[u32]) -> PerTask
+    requires { length periods.now ≤ max_tasks }
+    ensures { result.items ≡ periods.now }
 {
-    let mut r = [0u32; Plan::MAX_TASKS];
-    let mut i = 0;
-    while i < node.len() {
-        r[i] = node[i];
-        i += 1;
-    }
-    r
+    PerTask::try_from(periods).unwrap()
 }

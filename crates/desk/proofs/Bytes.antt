@@ -1,29 +1,41 @@
 -- The block's bytes: stored field by field and number by number, and what they read back as.
 use mathlib.Core.Path.{◌≡◌, refl, sym, ap, ◌∙◌}
 use mathlib.Core.List.{List, [], ◌∷◌, ◌++◌, append_assoc}
-use Prim.Native.Nat.{ℕ, suc, ◌+◌, ◌*◌, ◌^◌, ◌<◌}
+use Prim.Native.Nat.{ℕ, suc, ◌+◌, ◌*◌, ◌/◌, ◌^◌, ◌<◌}
 use native.Mathlib.Omega.{arith}
-use lib.ListN.{length, get_or, length-append}
+use lib.ListN.{length, length-append}
 use lib.Seq.{sets, take_at, drop_at}
+use Rattle.std.specs.Int.{w64, to_le_bytes}
 use Rattle.plan.specs.Lists.{tabulate}
 use Rattle.plan.specs.Words.{bytes_of, words_of, word}
 use Rattle.plan.specs.Tasks.{max_tasks}
 use Rattle.plan.proofs.Lists.{sets-append, sets-whole}
 use Rattle.plan.proofs.Bytes.{bytes-length, bytes-value, put, put_then, words-length}
-use Rattle.optimizer.specs.declared.answer.Answer.{Answer}
-use Rattle.desk.specs.Block.{Carried, block_size, periods_at, answer_bytes, encoded, carried}
-use Rattle.desk.specs.Inner.{Writes}
+use Rattle.optimizer.specs.declared.conclusion.Answer.{Answer}
+use Rattle.desk.specs.declared.block.Carried.{Carried}
+use Rattle.desk.specs.Block.{block_size, periods_at, answer_bytes, encoded, carried}
+use Rattle.desk.specs.Inner.{Narrow, Writes}
+
+-- a number's bytes by their places are its bytes
+pub eight-bytes : (v : ℕ) → to_le_bytes w64 v ≡ bytes_of 8 v
+unfolding bytes_of
+eight-bytes v =
+    let a : v / 256 ^ 2 ≡ v / 256 / 256 = omega arith in
+    let b : v / 256 ^ 3 ≡ v / 256 / 256 / 256 = omega arith in
+    let c : v / 256 ^ 4 ≡ v / 256 / 256 / 256 / 256 = omega arith in
+    let d : v / 256 ^ 5 ≡ v / 256 / 256 / 256 / 256 / 256 = omega arith in
+    let e : v / 256 ^ 6 ≡ v / 256 / 256 / 256 / 256 / 256 / 256 = omega arith in
+    let f : v / 256 ^ 7 ≡ v / 256 / 256 / 256 / 256 / 256 / 256 / 256 = omega arith in
+    rw (a, b, c, d, e, f)
 
 pub answer-put : (b : List ℕ) (a : Answer) (n : ℕ)
-    → put (put (put (put (put (put b 0 4 a.fault.number) 4 4 a.fault.place) 8 8 a.cost) 16 8 a.rounds) 24 8 a.bound) 32 4 n
+    → put
+    (put (put (put (put (put b 0 4 a.fault.number) 4 4 a.fault.place) 8 8 a.cost) 16 8 a.rounds) 24 8 a.bound) 32 4 n
     ≡ sets b 0 (answer_bytes a n)
 unfolding answer_bytes
 answer-put b a n = simp put_then
 
 -- numbers of 4 bytes each, behind other bytes, read back
-abbrev pub Narrow : List ℕ → Type 0
-Narrow xs = (k : ℕ) → get_or xs k 0 < 256 ^ 4
-
 words_back : (xs front : List ℕ) (at i : ℕ) → length front ≡ at + 4 * i → Narrow xs
     → tabulate (λ k. word (front ++ words_of xs) (at + 4 * k) 4) (length xs) i ≡ xs
 unfolding words_of

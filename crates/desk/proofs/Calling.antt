@@ -1,97 +1,95 @@
--- The call: a block of the wrong length, and what an operation's promise is of the block that was written.
-use mathlib.Core.Path.{◌≡◌, refl, ap, ◌∙◌}
-use mathlib.Core.Bool.{Bool, true, false, cond}
+-- The call: what it carries of a file that is refused, and of the tasks of a plan.
+use mathlib.Core.Path.{◌≡◌, refl, sym, ap, ◌∙◌}
+use mathlib.Core.Bool.{Bool, true, false, cond, true≢false}
 use mathlib.Core.List.{List, [], ◌++◌}
 use Prim.Native.Nat.{ℕ}
 use native.Mathlib.Omega.{arith}
-use lib.Dec.{eqb}
 use lib.ListN.{length, take, drop, take-append-drop}
 use lib.Seq.{take_at, length-take-le}
 use borrow.Author.Tests.{eq-eqb, ne_eqb, le-ltb}
-use Rattle.plan.specs.declared.reader.Loaded.{Loaded}
+use Rattle.plan.specs.declared.errors.ReadError.{ReadError}
+use Rattle.plan.specs.declared.faults.Fault.{Fault}
+use Rattle.plan.specs.declared.record.Plan.{Plan}
+use Rattle.plan.specs.declared.tasks.Task.{Task}
+use Rattle.plan.specs.Errors.{read_error_fault}
 use Rattle.plan.specs.Faults.{passed}
 use Rattle.plan.specs.Files.{file_fault, accepted, tasks_of}
-use Rattle.plan.specs.Promises.{plan_tasks, Loads, Usable}
-use Rattle.plan.proofs.Accepted.{tasks-few}
-use Rattle.plan.proofs.Loading.{loaded-count}
-use Rattle.optimizer.specs.declared.answer.Answer.{Answer}
-use Rattle.optimizer.specs.Claims.{Settles}
-use Rattle.optimizer.specs.Promises.{Outcome, call_fault, room_of, Answers, Plans}
-use Rattle.desk.specs.Block.{Carried, block_size, encoded, carried, no_periods, padded}
-use Rattle.desk.specs.Inner.{Writes}
-use Rattle.desk.specs.Promises.{desk_work, desk_outcome, Calls}
-
-pub wrong-block : (s b : List ℕ) (budget : ℕ) → (length b ≡ block_size → ⊥) → Calls s budget b b 25
-wrong-block s b budget h =
-    let e : eqb (length b) block_size ≡ false = ne_eqb (length b) block_size h in
-    record { returns = rw e; block = rw e; carries = λ l. absurd (h l); settles = λ l. absurd (h l) }
+use Rattle.plan.specs.Promises.{plan_tasks, Loads}
+use Rattle.plan.proofs.Numbers.{read-error-numbers}
+use Rattle.plan.proofs.Accepted.{accepted-none, refused-tasks, tasks-few}
+use Rattle.optimizer.specs.declared.conclusion.Answer.{Answer}
+use Rattle.optimizer.specs.Answers.{refused_answer}
+use Rattle.optimizer.specs.Promises.{Outcome, call_fault, Answers}
+use Rattle.desk.specs.declared.block.Carried.{Carried}
+use Rattle.desk.specs.Block.{no_periods, padded}
+use Rattle.desk.specs.Operations.{Refuses, Runs, comes_to, Finds}
+use Rattle.desk.specs.Promises.{desk_work}
 
 -- an accepted file passes the rules for the spaces too
-pub accepted-passes : (s : List ℕ) → accepted s ≡ true
+call-passes : (s : List ℕ) → accepted s ≡ true
     → passed (call_fault (file_fault s) (tasks_of s) (length (tasks_of s)) desk_work) ≡ true
 unfolding call_fault
-accepted-passes s e =
+call-passes s e =
     let n : ℕ = length (tasks_of s) in
     rw (e, eq-eqb n n refl, le-ltb desk_work n (omega (arith, tasks-few s)))
 
--- c in a block b of the right length, which is b' then, with a claim of the answer and the periods that it carries
-pub record Wrote (c : Carried) (Claim : Answer → List ℕ → Type 0) (b b' : List ℕ) (r : ℕ) : Type 0 where
-  pub returns : r ≡ cond (eqb (length b) block_size) c.answer.fault.number 25
-  pub block : b' ≡ cond (eqb (length b) block_size) (encoded c) b
-  pub carries : carried b' ≡ c
-  pub claim : let d = carried b' in Claim d.answer (take d.tasks d.periods)
+-- what an operation is lent, the first n of sixteen zeros; and what is carried when it left o' there
+abbrev lent : ℕ → List ℕ
+lent n = take n no_periods
 
--- what an operation is lent, the first n of sixteen zeros; and what is written when it left o' there
-abbrev pub lent : Loaded → List ℕ
-lent l = take l.plan.tasks no_periods
+abbrev left : ℕ → List ℕ → Answer → Carried
+left n o' a = record { answer = a; tasks = n; periods = o' ++ drop n no_periods }
 
-abbrev pub left : Loaded → List ℕ → Answer → Carried
-left l o' r = record { answer = r; tasks = l.plan.tasks; periods = o' ++ drop l.plan.tasks no_periods }
+-- of n tasks of a plan
+module _ {s : List ℕ} {p : Plan} (loads : Loads s p) {n : ℕ} (count : n ≡ length (plan_tasks p)) where
+  all : n ≡ length (tasks_of s)
+  all = count ∙ ap length loads.tasks
 
-module _ {s : List ℕ} {l : Loaded} (loaded : Loads s l × Usable l) where
-  count : l.plan.tasks ≡ length (tasks_of s)
-  count = loaded-count s l loaded
+  all-lent : length (lent n) ≡ n
+  all-lent = length-take-le n no_periods (omega (arith, all, tasks-few s))
 
-  all-lent : length (lent l) ≡ l.plan.tasks
-  all-lent = length-take-le l.plan.tasks no_periods loaded.1.few
-
-  pub space : length (lent l) ≡ length (tasks_of s)
-  space = all-lent ∙ count
-
-  module _ {o' : List ℕ} (sized : length o' ≡ length (lent l)) where
-    all-periods : (shown : Bool) (xs : List ℕ) → o' ≡ cond shown xs (lent l)
-        → o' ++ drop l.plan.tasks no_periods ≡ padded (cond shown xs [])
+  module _ {o' : List ℕ} (sized : length o' ≡ length (lent n)) where
+    all-periods : (shown : Bool) (xs : List ℕ) → o' ≡ cond shown xs (lent n)
+        → o' ++ drop n no_periods ≡ padded (cond shown xs [])
     all-periods true xs z = rw (← z, sized, all-lent)
-    all-periods false xs z = rw z (take-append-drop l.plan.tasks no_periods)
+    all-periods false xs z = rw z (take-append-drop n no_periods)
 
-    -- the outcome was x, and its periods are shown or not
-    pub wrote : (x : Outcome) (shown : Bool) {w w' : List ℕ} {r : Answer}
-        → Answers x (cond shown x.periods (lent l)) o' w w' r → (Claim : Answer → List ℕ → Type 0) → Claim r o'
-        → (b : List ℕ) {b' : List ℕ} → length b ≡ block_size → Writes (left l o' r) b'
-        → Wrote
-        (record { answer = x.answer; tasks = length (tasks_of s); periods = padded (cond shown x.periods []) })
-        Claim b b' r.fault.number
-    wrote x shown answers Claim h b long out =
-        let e : eqb (length b) block_size ≡ true = eq-eqb (length b) block_size long in
-        let front = take_at o' (drop l.plan.tasks no_periods) l.plan.tasks (sized ∙ all-lent) in
-        let all = all-periods shown x.periods answers.periods in
-        record {
-          returns = rw e (ap (λ a. a.fault.number) answers.answer);
-          block = rw (e, ← all, ← answers.answer, ← count) out.bytes;
-          carries = rw (← all, ← answers.answer, ← count) out.reads;
-          claim = rw (out.reads, front) h;
-        }
+-- no periods are shown or not
+shown-none : (shown : Bool) → cond {A = List ℕ} shown [] [] ≡ []
+shown-none true = refl
+shown-none false = refl
 
-    -- CHEAPEST's
-    pub right-block : {budget : ℕ} {w w' : List ℕ} {r : Answer}
-        → Plans l.fault (plan_tasks l.plan) budget (lent l) o' w w' r → length w ≡ desk_work
-        → (b : List ℕ) {b' : List ℕ} → length b ≡ block_size → Writes (left l o' r) b'
-        → Calls s budget b b' r.fault.number
-    right-block {budget} {w} {w'} {r} p work b long out =
-        let x = desk_outcome s budget in
-        let ts = tasks_of s in
-        let plans : Plans (file_fault s) ts budget (lent l) o' w w' r = rw (loaded.0.fault, loaded.0.tasks) at p in
-        let d = wrote x (passed x.answer.fault) (rw (space, work) at plans.answers)
-        (λ a xs. accepted s ≡ true → Settles ts budget (room_of ts desk_work) a xs)
-        (λ a. rw (space, work) at plans.settles (accepted-passes s a)) b long out in
-        record { returns = d.returns; block = d.block; carries = λ h. d.carries; settles = λ h. d.claim }
+module _
+    {outcome : Fault → List Task → ℕ → ℕ → ℕ → Outcome}
+    {shows : Outcome → Bool}
+    {Claims : List Task → ℕ → ℕ → Answer → List ℕ → Type 0} where
+  -- a file that is refused has no tasks
+  pub finds-refusal : Refuses outcome → (s : List ℕ) (e : ReadError) → read_error_fault e ≡ file_fault s
+      → (budget : ℕ)
+      → Finds outcome shows Claims s budget
+      (record { answer = refused_answer (read_error_fault e); tasks = 0; periods = no_periods })
+  finds-refusal law s e refuses budget =
+      let unaccepted : accepted s ≡ false =
+      rw (← refuses) (ne_eqb (read_error_fault e).number 0 (λ z. omega (arith, read-error-numbers e))) in
+      let o = law (file_fault s) (tasks_of s) budget (length (tasks_of s)) desk_work unaccepted in
+      record {
+        is = rw (o, shown-none, refused-tasks s unaccepted, ← refuses);
+        claims = λ t. absurd (true≢false (sym t ∙ unaccepted));
+      }
+
+  pub finds-plan : {s : List ℕ} {p : Plan} (loads : Loads s p) {n : ℕ} (count : n ≡ length (plan_tasks p))
+      → {o' : List ℕ} → length o' ≡ length (lent n) → {budget : ℕ} {w w' : List ℕ} {a : Answer}
+      → Runs outcome shows Claims (plan_tasks p) budget (lent n) o' w w' a → length w ≡ desk_work
+      → Finds outcome shows Claims s budget (left n o' a)
+  finds-plan {s} loads {n} count {o'} sized {budget} {w} {w'} {a} runs work =
+      let x = comes_to outcome shows Claims s budget in
+      let ts = tasks_of s in
+      let f = accepted-none s loads.accepts in
+      let e : length (lent n) ≡ length ts = all-lent loads count ∙ all loads count in
+      let answers : Answers x (cond (shows x) x.periods (lent n)) o' w w' a =
+      rw (← f, loads.tasks, e, work) at runs.answers in
+      let front = take_at o' (drop n no_periods) n (sized ∙ all-lent loads count) in
+      record {
+        is = rw (all-periods loads count sized (shows x) x.periods answers.periods, answers.answer, all loads count);
+        claims = λ t. rw front (rw (← f, loads.tasks, e, work) at runs.claims (call-passes s t));
+      }

@@ -1,3 +1,3 @@
 -- Laws of the answer block.
 mod Bytes  -- the bytes of the block
-pub mod Calling  -- the call
+mod Calling  -- the call

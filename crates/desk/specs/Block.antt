@@ -4,14 +4,9 @@ use Rattle.plan.specs.Lists.{tabulate}
 use Rattle.plan.specs.Faults.{fault, passed}
 use Rattle.plan.specs.Words.{bytes_of, words_of, word}
 use Rattle.plan.specs.Tasks.{max_tasks}
-use Rattle.optimizer.specs.declared.answer.Answer.{Answer}
+use Rattle.optimizer.specs.declared.conclusion.Answer.{Answer}
+use Rattle.desk.specs.declared.block.Carried.{Carried}
 use Rattle.optimizer.specs.Promises.{Outcome}
-
--- an answer, n, and sixteen periods
-pub record Carried : Type 0 where
-  pub answer : Answer
-  pub tasks : ℕ
-  pub periods : List ℕ
 
 -- "a block of exactly 100 bytes"; the periods' offset in it
 abbrev pub block_size : ℕ

@@ -2,3 +2,5 @@
 pub mod Block
 pub mod Inner
 pub mod Promises
+pub mod Operations
+pub mod Cheapest

@@ -3,7 +3,8 @@ use Rattle.std.specs.Prelude.{◌≡◌, true, cond, List, ℕ, eqb, length, tak
 use Rattle.plan.specs.Files.{accepted, tasks_of}
 use Rattle.optimizer.specs.Claims.{Settles}
 use Rattle.optimizer.specs.Promises.{Outcome, outcome, room_of}
-use Rattle.desk.specs.Block.{Carried, block_size, encoded, carried, carrying}
+use Rattle.desk.specs.declared.block.Carried.{Carried}
+use Rattle.desk.specs.Block.{block_size, encoded, carried, carrying}
 
 -- "It is CHEAPEST with a work space of 16,000 numbers."
 abbrev pub desk_work : ℕ

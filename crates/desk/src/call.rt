@@ -1,24 +1,43 @@
-ghost use Rattle.desk.specs.Promises.{Calls};
+ghost use Rattle.desk.specs.Operations.{Finds, Wrote};
 
-use super::block::{BLOCK_SIZE, write_block};
+use super::block::Carried;
+use super::operation::Operation;
+use optimizer::{Answer, WORK};
 use plan::Plan;
 
-// The numbers of the work space.
-const WORK: usize = 16_000;
-
-// DESK: the cheapest periods of a file's tasks, or a refusal or a stop, into the caller's block; returns the block's
-// number, or 25 for a block that is not 100 bytes, which is left as it was.
-pub fn desk_call(file: &[u8], block: &mut [u8], budget: u64) -> u32
-    ensures { Calls file.now budget block.old block.new result }
+// What the block of a file carries: what an operation finds of its tasks, or a refusal.
+fn find_periods<O: Operation>(file: &[u8], budget: u64) -> Carried
+    ensures { Finds O.outcome O.shows O.Claims file.now budget result }
 {
-    if block.len() != BLOCK_SIZE {
+    let mut periods = [0; Plan::MAX_TASKS];
+    match plan::load_plan(file) {
+        Ok(plan) => {
+            let n = plan.tasks.len();
+            let mut work = [0; WORK];
+            let ended = O::run(&plan, budget, &mut periods[..n], &mut work);
+            Carried {
+                answer: ended.into(),
+                tasks: n as u32,
+                periods,
+            }
+        }
+        Err(error) => Carried {
+            answer: Answer::from(Err(error.into())),
+            tasks: 0,
+            periods,
+        },
+    }
+}
+
+// An operation on a file's tasks, its outcome into the caller's block; returns the block's number, or 25 for a block
+// that is not 100 bytes, which is left as it was.
+pub fn fill_block<O: Operation>(file: &[u8], block: &mut [u8], budget: u64) -> u32
+    ensures { Wrote O.outcome O.shows O.Claims file.now budget block.old block.new result }
+{
+    if block.len() != Carried::SIZE {
         return 25;
     }
-    let loaded = plan::load_plan(file);
-    let n = loaded.plan.tasks;
-    let mut periods = [0u32; Plan::MAX_TASKS];
-    let mut work = [0u32; WORK];
-    let answer = optimizer::cheapest_of(loaded, budget, &mut periods[..n], &mut work);
-    write_block(block, answer, n as u32, &periods);
-    answer.fault.number
+    let carried = find_periods::<O>(file, budget);
+    carried.write(block);
+    carried.answer.fault.number
 }

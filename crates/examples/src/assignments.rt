@@ -1,116 +1,178 @@
-ghost use Rattle.std.specs.Prelude.{◌≡◌, length};
+ghost use Rattle.std.specs.Prelude.{◌<◌, ◌≤◌, length};
 
 use super::clock::first_missed;
-use super::draw::width;
-use super::list::{at, column, set};
-use std::num::wrapping_add_u32;
+use super::draw::SmallPlan;
+use plan::Task;
+use std::array;
 
-// The product of two small numbers.
-pub(crate) fn product(a: u32, b: u32) -> u32 {
-    if a < 65536 {
-        if b < 65536 {
-            return a * b;
+// How many period assignments three tasks with eight periods each have.
+pub(crate) const ASSIGNMENTS: usize = 512;
+
+// A period assignment: how far the period of each of up to three tasks is above its lower bound, at most 7; 0 for a
+// task that is not there. Their order is that of the periods.
+#[derive(Clone, Copy, Default, PartialEq, Eq, PartialOrd, Ord)]
+pub(crate) struct Assignment {
+    digits: [u32; 3],
+}
+
+impl Assignment {
+    // Number k in their order.
+    fn nth(k: usize) -> Assignment {
+        let k = (k % ASSIGNMENTS) as u32;
+        Assignment {
+            digits: [k / 64, k / 8 % 8, k % 8],
         }
     }
-    0
-}
 
-// How many period assignments up to three tasks have.
-pub(crate) fn assignments(rows: &[u32]) -> u32 {
-    product(width(rows, 0), product(width(rows, 1), width(rows, 2)))
-}
+    fn number(self) -> usize {
+        let [a, b, c] = self.digits.map(|digit| digit as usize);
+        64 * a + 8 * b + c
+    }
 
-// Assignment k of 512: each period one of eight from its lower bound on, the last task's counting fastest.
-pub(crate) fn assignment(rows: &[u32], k: u32) -> [u32; 3]
-    ensures { length result ≡ 3 }
-{
-    [
-        wrapping_add_u32(column(rows, 0, 1), k / 64 % 8),
-        wrapping_add_u32(column(rows, 1, 1), k / 8 % 8),
-        wrapping_add_u32(column(rows, 2, 1), k % 8),
-    ]
-}
+    pub(crate) fn digit(&self, task: usize) -> u32
+        requires { task < 3 }
+    {
+        self.digits[task]
+    }
 
-// The longest periods.
-fn longest(rows: &[u32]) -> [u32; 3]
-    ensures { length result ≡ 3 }
-{
-    [column(rows, 0, 2), column(rows, 1, 2), column(rows, 2, 2)]
-}
+    // The assignment with another period of a task.
+    pub(crate) fn with(&self, task: usize, digit: u32) -> Assignment
+        requires { task < 3 }
+    {
+        let mut digits = self.digits;
+        digits[task] = digit;
+        Assignment { digits }
+    }
 
-pub(crate) fn cost(rows: &[u32], periods: &[u32]) -> u32 {
-    let a = product(column(rows, 0, 4), at(periods, 0));
-    let b = product(column(rows, 1, 4), at(periods, 1));
-    let c = product(column(rows, 2, 4), at(periods, 2));
-    wrapping_add_u32(a, wrapping_add_u32(b, c))
-}
-
-// The cost of assignment k.
-pub(crate) fn cost_at(rows: &[u32], k: u32) -> u32 {
-    cost(rows, &assignment(rows, k))
-}
-
-pub(crate) fn within(rows: &[u32], periods: &[u32]) -> bool {
-    at(periods, 0) <= column(rows, 0, 2)
-        && at(periods, 1) <= column(rows, 1, 2)
-        && at(periods, 2) <= column(rows, 2, 2)
-}
-
-// 1 where assignment k is within the bounds and schedulable, else 0.
-fn flag(rows: &[u32], k: u32) -> u32 {
-    let periods = assignment(rows, k);
-    if within(rows, &periods) && first_missed(rows, &periods) == 0 {
-        1
-    } else {
-        0
+    // Whether no period is longer than another assignment's.
+    pub(crate) fn is_below(&self, other: &Assignment) -> bool {
+        self.digits.iter().zip(&other.digits).all(|(a, b)| a <= b)
     }
 }
 
-// The flags of the assignments that are within the bounds and schedulable.
-pub(crate) fn flags(rows: &[u32]) -> [u32; 512]
-    ensures { length result ≡ 512 }
-{
-    let mut flags = [0u32; 512];
-    let mut k: u32 = 0;
-    while k < 512 {
-        set(&mut flags, k as usize, flag(rows, k));
-        k += 1;
-    }
-    flags
+// The period assignments of up to three tasks, each with at most eight periods.
+#[derive(Drop)]
+pub(crate) struct Enumeration {
+    plan: SmallPlan,
+    // how many periods each task may have; 1 for a task that is not there
+    widths: [u32; 3],
+    // which assignments are within the bounds and schedulable
+    met: [bool; ASSIGNMENTS],
 }
 
-// The cost of assignment k where it has its flag, and else more than any.
-fn flagged_cost(rows: &[u32], flags: &[u32], k: u32) -> u32 {
-    if at(flags, k as usize) == 0 {
-        4294967295
-    } else {
-        cost_at(rows, k)
+fn periods_of(tasks: &[Task], assignment: Assignment) -> [u32; 3] {
+    let mut periods = assignment.digits;
+    for (period, task) in periods.iter_mut().zip(tasks) {
+        *period = period.wrapping_add(task.period_min);
     }
+    periods
 }
 
-// The number of the cheapest assignment with a flag, the first of equal cost; 512 where none has one.
-pub(crate) fn least(rows: &[u32], flags: &[u32]) -> u32 {
-    let mut best: u32 = 512;
-    let mut least: u32 = 4294967295;
-    let mut k: u32 = 0;
-    while k < 512 {
-        let cost = flagged_cost(rows, flags, k);
-        if cost < least {
-            best = k;
-            least = cost;
+fn cost_of(tasks: &[Task], periods: &[u32]) -> u64 {
+    let mut cost = 0u64;
+    for (task, period) in tasks.iter().zip(periods) {
+        cost = cost.wrapping_add(u64::from(task.weight) * u64::from(*period));
+    }
+    cost
+}
+
+fn is_within(task: &Task, period: u32) -> bool {
+    (task.period_min..=task.period_max).contains(&period)
+}
+
+fn widths_of(tasks: &[Task]) -> [u32; 3] {
+    let mut widths = [1; 3];
+    for (width, task) in widths.iter_mut().zip(tasks) {
+        *width = task
+            .period_max
+            .wrapping_sub(task.period_min)
+            .wrapping_add(1);
+    }
+    widths
+}
+
+// Whether an assignment is within the bounds, which these widths say, and schedulable.
+fn meets(plan: &SmallPlan, widths: &[u32; 3], assignment: Assignment) -> bool {
+    let tasks = plan.tasks();
+    assignment
+        .digits
+        .iter()
+        .zip(widths)
+        .all(|(digit, width)| digit < width)
+        && first_missed(tasks, &periods_of(tasks, assignment)).is_none()
+}
+
+impl Enumeration {
+    pub(crate) fn new(plan: SmallPlan) -> Enumeration {
+        let widths = widths_of(plan.tasks());
+        let met = array::from_fn(|k| meets(&plan, &widths, Assignment::nth(k)));
+        Enumeration { plan, widths, met }
+    }
+
+    pub(crate) fn tasks(&self) -> &[Task]
+        ensures some { 0 < length result.now }
+        ensures few { length result.now ≤ 3 }
+    {
+        self.plan.tasks()
+    }
+
+    // How many assignments are within the bounds.
+    pub(crate) fn count(&self) -> u32 {
+        let [a, b, c] = self.widths;
+        a.wrapping_mul(b).wrapping_mul(c)
+    }
+
+    pub(crate) fn width(&self, task: usize) -> u32
+        requires { task < 3 }
+    {
+        self.widths[task]
+    }
+
+    // The assignment of the longest periods.
+    pub(crate) fn longest(&self) -> Assignment {
+        Assignment {
+            digits: self.widths.map(|width| width.saturating_sub(1)),
         }
-        k += 1;
     }
-    best
-}
 
-// The cheapest periods, or the longest where none are schedulable.
-pub(crate) fn optimum(rows: &[u32], flags: &[u32]) -> [u32; 3]
-    ensures { length result ≡ 3 }
-{
-    let best = least(rows, flags);
-    if best < 512 {
-        return assignment(rows, best);
+    // Its periods; for a task that is not there 0.
+    pub(crate) fn periods(&self, assignment: Assignment) -> [u32; 3] {
+        periods_of(self.tasks(), assignment)
     }
-    longest(rows)
+
+    pub(crate) fn cost(&self, assignment: Assignment) -> u64 {
+        cost_of(self.tasks(), &self.periods(assignment))
+    }
+
+    pub(crate) fn cost_at(&self, periods: &[u32]) -> u64 {
+        cost_of(self.tasks(), periods)
+    }
+
+    // Whether periods are within the bounds.
+    pub(crate) fn are_within(&self, periods: &[u32]) -> bool {
+        self.tasks()
+            .iter()
+            .zip(periods)
+            .all(|(task, period)| is_within(task, *period))
+    }
+
+    // Whether an assignment is within the bounds and schedulable.
+    pub(crate) fn is_met(&self, assignment: Assignment) -> bool {
+        self.met.get(assignment.number()) == Some(&true)
+    }
+
+    // The cheapest assignment that is within the bounds and schedulable, the first of equal cost.
+    pub(crate) fn cheapest(&self) -> Option<Assignment> {
+        self.met
+            .iter()
+            .enumerate()
+            .filter(|(_, is_met)| **is_met)
+            .map(|(k, _)| Assignment::nth(k))
+            .min_by_key(|assignment| self.cost(*assignment))
+    }
+
+    // What orders assignments: their cost, and where that is equal the periods.
+    pub(crate) fn order(&self, assignment: Assignment) -> (u64, Assignment) {
+        (self.cost(assignment), assignment)
+    }
 }

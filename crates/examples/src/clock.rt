@@ -1,138 +1,107 @@
-use super::draw::draw_periods;
-use super::list::{add, at, begins, column, first, first_mut, tasks};
-use std::num::wrapping_add_u32;
+ghost use Rattle.std.specs.Prelude.{◌≤◌, length};
 
-// The work that a task releases at the moment `now`.
-fn released_by(wcet: u32, period: u32, now: u32) -> u32 {
-    if period == 0 {
-        0
-    } else if now % period == 0 {
-        wcet
-    } else {
-        0
-    }
-}
+use plan::Task;
+use response::Times;
+use std::fmt;
 
-// The work that the tasks above one release at the moment `now`.
-fn released(rows: &[u32], periods: &[u32], task: usize, now: u32) -> u32 {
-    let mut work: u32 = 0;
-    let mut j: usize = 0;
-    while j < task {
-        work = wrapping_add_u32(work, released_by(column(rows, j, 0), at(periods, j), now));
-        j += 1;
+// The work that tasks release at the moment `now`.
+fn released(tasks: &[Task], periods: &[u32], now: u32) -> u32 {
+    let mut work = 0u32;
+    for (task, period) in tasks.iter().zip(periods) {
+        if *period != 0 && now % *period == 0 {
+            work = work.wrapping_add(task.wcet);
+        }
     }
     work
 }
 
-pub(crate) fn lesser(a: u32, b: u32) -> u32 {
-    if a < b { a } else { b }
-}
-
 // What a task demands for itself: its wcet and, once, its blocking.
-pub(crate) fn own_demand(rows: &[u32], task: usize) -> u32 {
-    wrapping_add_u32(column(rows, task, 0), column(rows, task, 5))
+pub(crate) fn own_demand(task: &Task) -> u32 {
+    task.wcet.wrapping_add(task.blocking)
 }
 
-// The response time by the clock: tick by tick, until all work released before the tick's end is done; 0 past the
+// The response time by the clock: tick by tick, until all work released before the tick's end is done; none past the
 // deadline.
-fn finish(rows: &[u32], periods: &[u32], task: usize) -> u32 {
-    let deadline = lesser(at(periods, task), column(rows, task, 3));
-    let mut work = own_demand(rows, task);
-    let mut now: u32 = 0;
-    while now < deadline {
-        work = wrapping_add_u32(work, released(rows, periods, task, now));
-        now += 1;
-        if work <= now {
-            return now;
+fn finish(task: &Task, period: u32, above: &[Task], periods: &[u32]) -> Option<u32> {
+    let mut work = own_demand(task);
+    for now in 0..period.min(task.deadline_cap) {
+        work = work.wrapping_add(released(above, periods, now));
+        if work <= now + 1 {
+            return Some(now + 1);
         }
     }
-    0
+    None
 }
 
-// A task's flag if it is there and misses its deadline, else 0.
-fn missed_flag(rows: &[u32], periods: &[u32], task: usize, flag: u32) -> u32 {
-    if column(rows, task, 0) == 0 {
-        0
-    } else if finish(rows, periods, task) == 0 {
-        flag
-    } else {
-        0
+// The response times of up to three tasks, with none for those that miss their deadlines.
+fn response_times(tasks: &[Task], periods: &[u32; 3]) -> [Option<u32>; 3]
+    requires { length tasks.now ≤ 3 }
+{
+    let mut times = [None; 3];
+    for (i, task) in tasks.iter().enumerate() {
+        times[i] = finish(task, periods[i], &tasks[..i], periods);
+    }
+    times
+}
+
+// The first task, from 1 on, that misses its deadline.
+pub(crate) fn first_missed(tasks: &[Task], periods: &[u32]) -> Option<u32>
+    requires { length tasks.now ≤ 3 }
+{
+    for i in 0..tasks.len().min(periods.len()) {
+        if finish(&tasks[i], periods[i], &tasks[..i], periods).is_none() {
+            return Some(i as u32 + 1);
+        }
+    }
+    None
+}
+
+// What TIMES was compared at: period assignments, missed deadlines, and answers that differ.
+#[derive(Clone, Copy, Default)]
+pub(crate) struct Counts {
+    assignments: u64,
+    missed: u64,
+    differences: u64,
+}
+
+impl Counts {
+    // Compares TIMES with the clock at a period for each task.
+    pub(crate) fn compare(&mut self, file: &[u8], tasks: &[Task], periods: &[u32; 3])
+        requires { length tasks.now ≤ 3 }
+    {
+        let count = tasks.len();
+        let by_clock = response_times(tasks, periods);
+        let by_clock = &by_clock[..count];
+        let right = Times {
+            missed: by_clock.iter().filter(|time| time.is_none()).count() as u32,
+            first: first_missed(tasks, periods),
+        };
+        let mut times = [7; 3];
+        let times = &mut times[..count];
+        let answer = response::response_times(file, &periods[..count], times);
+        let is_same = answer == Ok(right)
+            && times
+                .iter()
+                .zip(by_clock)
+                .all(|(time, by_clock)| *time == by_clock.unwrap_or(0));
+        self.assignments = self.assignments.saturating_add(1);
+        self.missed = self.missed.saturating_add(u64::from(right.missed));
+        if !is_same {
+            self.differences = self.differences.saturating_add(1);
+        }
     }
 }
 
-// The flags 1, 2 and 4 of the tasks that miss their deadlines.
-fn missed(rows: &[u32], periods: &[u32]) -> u32 {
-    missed_flag(rows, periods, 0, 1)
-        | missed_flag(rows, periods, 1, 2)
-        | missed_flag(rows, periods, 2, 4)
-}
-
-// The first task that has its flag, or 0.
-pub(crate) fn first_flag(flags: u32) -> u32 {
-    match flags {
-        1 | 3 | 5 | 7 => 1,
-        2 | 6 => 2,
-        4 => 3,
-        _ => 0,
+impl fmt::Display for Counts {
+    fn fmt<W: fmt::Write>(&self, f: &mut fmt::Formatter<W>) -> fmt::Result {
+        let Counts {
+            assignments,
+            missed,
+            differences,
+        } = *self;
+        write!(
+            f,
+            "period assignments {assignments} missed deadlines {missed} differences {differences}"
+        )
     }
-}
-
-// The first of up to three tasks that misses its deadline, or 0.
-pub(crate) fn first_missed(rows: &[u32], periods: &[u32]) -> u32 {
-    first_flag(missed(rows, periods))
-}
-
-fn missed_count(rows: &[u32], periods: &[u32]) -> u32 {
-    u32::count_ones(missed(rows, periods))
-}
-
-// What TIMES is to answer: number, place, missed, first and the response times.
-fn expected(rows: &[u32], periods: &[u32]) -> [u32; 7] {
-    [
-        0,
-        0,
-        missed_count(rows, periods),
-        first_missed(rows, periods),
-        finish(rows, periods, 0),
-        finish(rows, periods, 1),
-        finish(rows, periods, 2),
-    ]
-}
-
-// What it answers.
-fn answered(file: &[u8], periods: &[u32], times: &mut [u32]) -> [u32; 7] {
-    let r = response::response_times(file, periods, times);
-    [
-        r.fault.number,
-        r.fault.place,
-        r.missed,
-        r.first,
-        at(times, 0),
-        at(times, 1),
-        at(times, 2),
-    ]
-}
-
-// 1 where TIMES answers something else, else 0.
-fn differs(file: &[u8], rows: &[u32], periods: &[u32]) -> u32 {
-    let mut times = [7u32; 3];
-    let answer = answered(file, periods, first_mut(&mut times, periods.len()));
-    if begins(&expected(rows, periods), &answer) {
-        0
-    } else {
-        1
-    }
-}
-
-// Counts 1 period assignments, 2 missed deadlines, 3 differences.
-fn compare_at(file: &[u8], rows: &[u32], periods: &[u32], counts: &mut [u64]) {
-    add(counts, 1, 1);
-    add(counts, 2, missed_count(rows, periods));
-    add(counts, 3, differs(file, rows, periods));
-}
-
-// Compares TIMES with the clock at drawn periods, in run k of four.
-pub(crate) fn compare(sequence: &[u32], k: usize, file: &[u8], rows: &[u32], counts: &mut [u64]) {
-    let periods = draw_periods(sequence, k, rows);
-    compare_at(file, rows, first(&periods, tasks(rows) as usize), counts);
 }

@@ -1,93 +1,100 @@
-ghost use Rattle.std.specs.Prelude.{◌≡◌, length};
+ghost use Rattle.std.specs.Prelude.{◌<◌, ◌≤◌, length};
 
-use super::list::{at, column};
-use std::num::{wrapping_add_u32, wrapping_sub_u32};
+use plan::Task;
+use std::array;
+use std::ops::RangeInclusive;
 
-fn next(seed: u32) -> u32 {
-    ((seed as u64 * 1103515245 + 12345) % 2147483648) as u32
+fn next(number: u32) -> u32 {
+    ((u64::from(number) * 1103515245 + 12345) % 2147483648) as u32
 }
 
 // The next numbers of a fixed sequence.
-pub(crate) fn sequence(seed: u32) -> [u32; 36]
-    ensures { length result ≡ 36 }
-{
-    let mut list = [0u32; 36];
-    let mut last = seed;
-    let mut k: usize = 0;
-    while k < 36 {
-        last = next(last);
-        list[k] = last;
-        k += 1;
+#[derive(Clone, Copy)]
+pub(crate) struct Sequence {
+    numbers: [u32; 36],
+}
+
+impl Sequence {
+    pub(crate) fn new(seed: u32) -> Sequence {
+        let mut last = seed;
+        let numbers = array::from_fn(|_| {
+            last = next(last);
+            last
+        });
+        Sequence { numbers }
     }
-    list
-}
 
-// Number k of a sequence as one of `count` numbers from `least` on.
-pub(crate) fn draw(sequence: &[u32], k: usize, least: u32, count: u32) -> u32 {
-    if count == 0 {
-        least
-    } else {
-        wrapping_add_u32(least, at(sequence, k) / 65536 % count)
+    // The seed of the next sequence is number 29; the numbers behind it come again there.
+    pub(crate) fn next_seed(&self) -> u32 {
+        self.numbers[29]
+    }
+
+    // Number k as one of a range.
+    pub(crate) fn draw(&self, k: usize, range: RangeInclusive<u32>) -> u32
+        requires { k < 36 }
+    {
+        let least = *range.start();
+        let count = range.end().saturating_sub(least).saturating_add(1);
+        least.wrapping_add(self.numbers[k] / 65536 % count)
+    }
+
+    // A small task, by five numbers from 0 on, and with blocking and jitter up to `most` by numbers 30 to 35.
+    fn draw_task(&self, i: usize, most: u32) -> Task
+        requires { i < 3 }
+    {
+        let from = 5 * i;
+        let period_min = self.draw(from + 1, 1..=4);
+        Task {
+            wcet: self.draw(from, 1..=4),
+            period_min,
+            period_max: self.draw(from + 2, period_min..=period_min.saturating_add(7)),
+            deadline_cap: self.draw(from + 3, 1..=24),
+            weight: self.draw(from + 4, 0..=3),
+            blocking: self.draw(30 + i, 0..=most),
+            jitter: self.draw(33 + i, 0..=most),
+        }
+    }
+
+    // Periods within the bounds for up to three tasks in run k of four, by numbers 16 to 27.
+    pub(crate) fn draw_periods(&self, run: usize, tasks: &[Task]) -> [u32; 3]
+        requires run { run < 4 }
+        requires tasks { length tasks.now ≤ 3 }
+    {
+        let mut periods = [0; 3];
+        for (i, task) in tasks.iter().enumerate() {
+            periods[i] = self.draw(16 + 3 * run + i, task.period_min..=task.period_max);
+        }
+        periods
     }
 }
 
-// One, two or three tasks, by number 15.
-fn draw_tasks(sequence: &[u32]) -> usize {
-    draw(sequence, 15, 1, 3) as usize
+// One, two or three small tasks: an array with a count, since a literal draws all three, where a vector would be filled
+// by a loop with an invariant.
+#[derive(Clone, Copy)]
+pub(crate) struct SmallPlan {
+    tasks: [Task; 3],
+    count: usize,
+    ghost some: { 0 < count },
+    ghost fits: { count ≤ length tasks },
 }
 
-// Number k of rows of small tasks: wcet 1 to 4, at most eight periods each, caps 1 to 24, weights 0 to 3, and blocking
-// and jitter below `further`.
-fn draw_number(sequence: &[u32], k: usize, further: u32) -> u32 {
-    let task = k / 7;
-    let from = 5 * task;
-    if draw_tasks(sequence) <= task {
-        return 0;
+impl SmallPlan {
+    // How many tasks number 15 says.
+    pub(crate) fn draw(sequence: &Sequence, most: u32) -> SmallPlan {
+        SmallPlan {
+            tasks: [
+                sequence.draw_task(0, most),
+                sequence.draw_task(1, most),
+                sequence.draw_task(2, most),
+            ],
+            count: sequence.draw(15, 1..=3).clamp(1, 3) as usize,
+        }
     }
-    match k % 7 {
-        0 => draw(sequence, from, 1, 4),
-        1 => draw(sequence, from + 1, 1, 4),
-        2 => draw(sequence, from + 2, draw(sequence, from + 1, 1, 4), 8),
-        3 => draw(sequence, from + 3, 1, 24),
-        4 => draw(sequence, from + 4, 0, 4),
-        5 => draw(sequence, task + 30, 0, further),
-        _ => draw(sequence, task + 33, 0, further),
+
+    pub(crate) fn tasks(&self) -> &[Task]
+        ensures some { 0 < length result.now }
+        ensures few { length result.now ≤ 3 }
+    {
+        &self.tasks[..self.count]
     }
-}
-
-// Rows of up to three tasks, by numbers 0 to 14, and with blocking and jitter below `further` by numbers 30 to 35.
-pub(crate) fn draw_plan(sequence: &[u32], further: u32) -> [u32; 21]
-    ensures { length result ≡ 21 }
-{
-    let mut rows = [0u32; 21];
-    let mut k: usize = 0;
-    while k < 21 {
-        rows[k] = draw_number(sequence, k, further);
-        k += 1;
-    }
-    rows
-}
-
-// How many periods a task may have; 1 for a task that is not there.
-pub(crate) fn width(rows: &[u32], task: usize) -> u32 {
-    wrapping_add_u32(
-        wrapping_sub_u32(column(rows, task, 2), column(rows, task, 1)),
-        1,
-    )
-}
-
-fn draw_period(sequence: &[u32], k: usize, rows: &[u32], task: usize) -> u32 {
-    draw(sequence, k, column(rows, task, 1), width(rows, task))
-}
-
-// Periods within the bounds for up to three tasks in run k of four, by numbers 16 to 27.
-pub(crate) fn draw_periods(sequence: &[u32], k: usize, rows: &[u32]) -> [u32; 3]
-    ensures { length result ≡ 3 }
-{
-    let from = 16 + 3 * (k % 4);
-    [
-        draw_period(sequence, from, rows, 0),
-        draw_period(sequence, from + 1, rows, 1),
-        draw_period(sequence, from + 2, rows, 2),
-    ]
 }

@@ -1,180 +1,193 @@
-use super::list::{at, column, tasks};
-use super::words::{byte, number, number_u32, piece};
-use std::num::{wrapping_add_u32, wrapping_add_usize, wrapping_sub_usize};
+ghost use Rattle.std.specs.Prelude.{◌≤◌, length};
 
-// A number's lowest byte, if the file has the offset.
-fn put_byte(file: &mut [u8], at: usize, v: u32) {
-    if at < file.len() {
-        file[at] = (v % 256) as u8;
+use listing::INPUT_SIZE;
+use plan::Task;
+
+const PLAN_P: &str = "%2 1 1 6 1000 1 2 1 8 1000 1 'gauge 'radio";
+
+const PLAN_Q: &str = "&2 1 1 6 1000 1 0 0 2 1 8 1000 1 0 0 'gauge 'radio";
+
+#[derive(Clone, Copy)]
+pub(crate) enum Version {
+    One = 1,
+    Two = 2,
+}
+
+// A word of a file, as stdin describes it.
+#[derive(Clone, Copy)]
+enum Word<'a> {
+    Header { version: Version, tasks: u8 },
+    Seek(usize),
+    Number(u32),
+    Byte(u8),
+    Name(&'a str),
+    Repeat { width: usize, times: u8 },
+    End,
+}
+
+impl<'a> Word<'a> {
+    fn parse(word: &'a str) -> Option<Word<'a>> {
+        let mut chars = word.chars();
+        let first = chars.next()?;
+        let rest = chars.as_str();
+        let parsed = match first {
+            '%' => Word::Header {
+                version: Version::One,
+                tasks: rest.parse().ok()?,
+            },
+            '&' => Word::Header {
+                version: Version::Two,
+                tasks: rest.parse().ok()?,
+            },
+            '@' => Word::Seek(rest.parse().ok()?),
+            '.' => Word::Byte(rest.parse().ok()?),
+            '\'' => Word::Name(rest),
+            '*' => Word::Repeat {
+                width: 20,
+                times: rest.parse().ok()?,
+            },
+            '+' => Word::Repeat {
+                width: 28,
+                times: rest.parse().ok()?,
+            },
+            ';' => Word::End,
+            _ => Word::Number(word.parse().ok()?),
+        };
+        Some(parsed)
     }
 }
 
-// A number without its lowest k bytes, of which there are up to three.
-fn without(v: u32, k: usize) -> u32 {
-    match k {
-        0 => v,
-        1 => v / 256,
-        2 => v / 65536,
-        _ => v / 16777216,
-    }
-}
-
-// Where the names of n tasks, at most sixteen, start in a version, right behind the rows.
-fn names_at(version: u32, n: u32) -> u32 {
-    if version == 1 {
-        16 + 20 * (n % 17)
-    } else {
-        16 + 28 * (n % 17)
-    }
-}
-
-// Number k of the header of n tasks, at most sixteen, in a version; their rows follow it, and their names these.
-fn header(version: u32, n: u32, k: usize) -> u32 {
-    let tasks = n % 17;
-    match k {
-        0 => wrapping_add_u32(version, 65536 * tasks),
-        1 => 16,
-        2 => names_at(version, n),
-        _ => wrapping_add_u32(names_at(version, n), 16 * tasks),
-    }
-}
-
-// Number k of rows as a version has them.
-fn row_number(version: u32, rows: &[u32], k: usize) -> u32 {
-    if version == 1 {
-        column(rows, k / 5, k % 5)
-    } else {
-        at(rows, k)
-    }
-}
-
-// Number k of the plan file of some rows in a version, whose tasks are called A, B and C.
-fn number_of(version: u32, rows: &[u32], k: usize) -> u32 {
-    let names = (names_at(version, tasks(rows)) / 4) as usize;
-    if k < 4 {
-        header(version, tasks(rows), k)
-    } else if k < names {
-        row_number(version, rows, k - 4)
-    } else if (k - names) % 4 == 0 {
-        (65 + (k - names) / 4 % 3) as u32
-    } else {
-        0
-    }
-}
-
-// Writes the plan file of up to three rows in a version; its length.
-pub(crate) fn build(version: u32, rows: &[u32], file: &mut [u8]) -> usize {
-    let end = header(version, tasks(rows), 3) as usize;
-    let mut k: usize = 0;
-    while k < end {
-        put_byte(file, k, without(number_of(version, rows, k / 4), k % 4));
-        k += 1;
-    }
-    end
-}
-
-// How many bytes a word writes.
-fn size(word: &[u8]) -> usize {
-    match byte(word, 0) {
-        b'%' | b'&' | b'\'' => 16,
-        b'.' => 1,
-        b'*' => 20 * (number(word) % 128) as usize,
-        b'+' => 28 * (number(word) % 128) as usize,
-        b'0'..=b'9' => 4,
-        _ => 0,
-    }
-}
-
-// Number k of the header that a word writes.
-fn header_of(word: &[u8], k: usize) -> u32 {
-    match byte(word, 0) {
-        b'%' => header(1, number_u32(word), k),
-        _ => header(2, number_u32(word), k),
-    }
-}
-
-// Byte k of what a word writes, which goes to an offset of the file.
-fn byte_of(word: &[u8], k: usize, file: &[u8], to: usize) -> u32 {
-    match byte(word, 0) {
-        b'%' | b'&' => without(header_of(word, k / 4), k % 4),
-        b'\'' => byte(word, wrapping_add_usize(k, 1)) as u32,
-        b'*' => byte(file, wrapping_sub_usize(to, 20)) as u32,
-        b'+' => byte(file, wrapping_sub_usize(to, 28)) as u32,
-        _ => without(number_u32(word), k),
-    }
-}
-
-// Writes a word at an offset; the offset behind it.
-fn put_word(word: &[u8], file: &mut [u8], from: usize) -> usize {
-    let end = size(word);
-    let mut k: usize = 0;
-    while k < end {
-        let to = wrapping_add_usize(from, k);
-        let v = byte_of(word, k, file, to);
-        put_byte(file, to, v);
-        k += 1;
-    }
-    wrapping_add_usize(from, end)
-}
-
-// Where the next word writes, and where the file ends.
+// A plan file that is written piece by piece, over zeros; a file that ends past its space is empty.
 #[derive(Drop)]
-struct Place {
+pub(crate) struct PlanFile {
+    space: [u8; INPUT_SIZE],
+    // where the next piece goes
     at: usize,
+    // where the file ends
     end: usize,
 }
 
-// The place behind a word that is written up to an offset.
-fn moved(word: &[u8], behind: usize, p: Place) -> Place {
-    match byte(word, 0) {
-        b'%' | b'&' => Place {
-            at: behind,
-            end: header_of(word, 3) as usize,
-        },
-        b'@' => Place {
-            at: number(word) as usize,
-            end: p.end,
-        },
-        b';' => Place {
-            at: behind,
-            end: behind,
-        },
-        _ => Place {
-            at: behind,
-            end: p.end,
-        },
+impl PlanFile {
+    fn new() -> PlanFile {
+        PlanFile {
+            space: [0; INPUT_SIZE],
+            at: 0,
+            end: 0,
+        }
     }
-}
 
-// Writes words over a file with an end; where it then ends.
-fn write_from(words: &[u8], file: &mut [u8], end: usize) -> usize {
-    let mut p = Place { at: 0, end };
-    let mut k: usize = 0;
-    while k < words.len() {
-        let word = piece(words, b' ', k);
-        let behind = put_word(word, file, p.at);
-        p = moved(word, behind, p);
-        k += 1;
+    // The file that words describe: they change plan P, or plan Q behind $, or describe all of it from a header on.
+    pub(crate) fn from_words(words: &str) -> Option<PlanFile> {
+        let mut file = PlanFile::new();
+        if let Some(changes) = words.strip_prefix('$') {
+            file.write(PLAN_Q)?;
+            file.write(changes)?;
+        } else {
+            if !words.starts_with('%') && !words.starts_with('&') {
+                file.write(PLAN_P)?;
+            }
+            file.write(words)?;
+        }
+        Some(file)
     }
-    p.end
-}
 
-// Writes the plan that words change, over zeros: none before a header, plan Q before $, else plan P of docs/FORMAT.md;
-// where it ends.
-fn write_base(words: &[u8], file: &mut [u8]) -> usize {
-    match byte(words, 1) {
-        b'%' | b'&' => 0,
-        b'$' => write_from(
-            b"&2 1 1 6 1000 1 0 0 2 1 8 1000 1 0 0 'gauge 'radio",
-            file,
-            0,
-        ),
-        _ => write_from(b"%2 1 1 6 1000 1 2 1 8 1000 1 'gauge 'radio", file, 0),
+    // The file of tasks in a version, with their names A, B and C behind them.
+    pub(crate) fn from_tasks(version: Version, tasks: &[Task]) -> PlanFile
+        requires { length tasks.now ≤ 3 }
+    {
+        let mut file = PlanFile::new();
+        file.put_header(version, tasks.len() as u8);
+        for task in tasks {
+            file.put_task(version, *task);
+        }
+        for letter in &b"ABC"[..tasks.len()] {
+            file.put_name(&[*letter]);
+        }
+        file
     }
-}
 
-// The file that words describe, over zeros; its length.
-pub(crate) fn write(words: &[u8], file: &mut [u8]) -> usize {
-    let end = write_base(words, file);
-    write_from(words, file, end)
+    pub(crate) fn bytes(&self) -> &[u8]
+        ensures { length result.now ≤ INPUT_SIZE }
+    {
+        self.space.get(..self.end).unwrap_or(&[])
+    }
+
+    // Writes words from the start on.
+    fn write(&mut self, words: &str) -> Option<()> {
+        self.at = 0;
+        for word in words.split_whitespace() {
+            self.put_word(Word::parse(word)?);
+        }
+        Some(())
+    }
+
+    fn put_word(&mut self, word: Word) {
+        match word {
+            Word::Header { version, tasks } => self.put_header(version, tasks),
+            Word::Seek(at) => self.at = at,
+            Word::Number(number) => self.put(&number.to_le_bytes()),
+            Word::Byte(byte) => self.put(&[byte]),
+            Word::Name(name) => self.put_name(name.as_bytes()),
+            Word::Repeat { width, times } => {
+                for _ in 0..times {
+                    self.repeat(width);
+                }
+            }
+            Word::End => self.end = self.at,
+        }
+    }
+
+    fn put(&mut self, bytes: &[u8]) {
+        for byte in bytes {
+            if let Some(place) = self.space.get_mut(self.at) {
+                *place = *byte;
+            }
+            self.at = self.at.saturating_add(1);
+        }
+    }
+
+    // The header of so many tasks; their rows follow it, and their names these.
+    fn put_header(&mut self, version: Version, tasks: u8) {
+        let tasks = u32::from(tasks);
+        let row_size = match version {
+            Version::One => 20,
+            Version::Two => 28,
+        };
+        let names = 16 + row_size * tasks;
+        let end = names + 16 * tasks;
+        for number in [version as u32 + 65536 * tasks, 16, names, end] {
+            self.put(&number.to_le_bytes());
+        }
+        self.end = end as usize;
+    }
+
+    fn put_task(&mut self, version: Version, task: Task) {
+        let count = match version {
+            Version::One => 5,
+            Version::Two => Task::FIELDS,
+        };
+        for number in &task.row()[..count] {
+            self.put(&number.to_le_bytes());
+        }
+    }
+
+    fn put_name(&mut self, name: &[u8]) {
+        let mut field = [0; 16];
+        for (place, byte) in field.iter_mut().zip(name) {
+            *place = *byte;
+        }
+        self.put(&field);
+    }
+
+    // Writes the bytes before, so many, once more.
+    fn repeat(&mut self, width: usize) {
+        for _ in 0..width {
+            let from = self.at.checked_sub(width);
+            let byte = from
+                .and_then(|from| self.space.get(from))
+                .copied()
+                .unwrap_or(0);
+            self.put(&[byte]);
+        }
+    }
 }

@@ -1,10 +1,10 @@
 #![tactic(auto)]
 
 // Examples and tests that are run, not proved: each line says what was tried and what came out.
-mod print; // print.rt: text and numbers to standard output
-mod list; // list.rt: lists of numbers, read and set at any index
-mod words; // words.rt: a text's pieces and numbers
-mod file; // file.rt: plan files, from words and from rows of numbers
+mod operations; // operations.rt: READ, WRITE, TIMES, CHEAPEST and BEST, each called in one place
+mod file; // file.rt: plan files, from words and from tasks
+mod example; // example.rt: a line of file stdin
+mod show; // show.rt: lists and names as text
 mod cases; // cases.rt: the examples of file stdin, by READ, NAME, WRITE, TIMES, CHEAPEST, BEST and the listing
 mod draw; // draw.rt: small plans from a fixed sequence
 mod clock; // clock.rt: TIMES against a clock
@@ -13,7 +13,14 @@ mod rounds; // rounds.rt: the rounds of BEST by plain scans over them
 mod planner; // planner.rt: CHEAPEST and BEST against the enumeration, BEST against the plain rounds
 mod many; // many.rt: all of these over many drawn plans
 
-fn main() {
-    cases::run();
-    many::run();
+use std::{io, str};
+
+fn main(rt: HostRuntime) -> io::Result<()> {
+    let mut input = [0u8; 32768];
+    let size = input::read_input(rt.stdin(), &mut input)?;
+    let Ok(lines) = str::from_utf8(&input[..size]) else {
+        return Err(io::Error::from(io::ErrorKind::InvalidData));
+    };
+    cases::run(&rt, lines)?;
+    many::run(&rt)
 }

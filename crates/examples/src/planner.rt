@@ -1,262 +1,245 @@
-use super::assignments::{assignments, cost, least, optimum, product, within};
-use super::clock::{first_flag, first_missed, lesser, own_demand};
-use super::draw::draw;
-use super::list::{add, all, at, begins, column, first_mut, tasks};
+use super::assignments::{ASSIGNMENTS, Assignment, Enumeration};
+use super::clock::{first_missed, own_demand};
+use super::draw::Sequence;
+use super::operations::{Outcome, Planner};
 use super::rounds;
-use optimizer::Answer;
-use std::num::wrapping_add_usize;
+use optimizer::{CallError, Conclusion, Stop};
+use plan::Task;
+use std::fmt;
 
-// CHEAPEST, or BEST, which keeps an incumbent.
-pub(crate) fn optimize(
-    file: &[u8],
-    keeps: bool,
+// Whether a task's own demand exceeds its longest period or its cap.
+fn is_infeasible_alone(task: &Task) -> bool {
+    task.period_max.min(task.deadline_cap) < own_demand(task)
+}
+
+// The first such task, from 1 on.
+fn first_alone(tasks: &[Task]) -> Option<u32> {
+    (1..=3)
+        .zip(tasks)
+        .find(|(_, task)| is_infeasible_alone(task))
+        .map(|(place, _)| place)
+}
+
+// 31 at the first task that is infeasible alone, or 32 at the first that misses its deadline at the longest periods;
+// none where all meet theirs.
+fn refusal_of(plan: &Enumeration) -> Option<CallError> {
+    if let Some(place) = first_alone(plan.tasks()) {
+        return Some(CallError::InfeasibleAlone(place));
+    }
+    let place = first_missed(plan.tasks(), &plan.periods(plan.longest()))?;
+    Some(CallError::Infeasible(place))
+}
+
+// A run of CHEAPEST or BEST on a plan, with a budget and with room for so many numbers.
+#[derive(Clone, Copy)]
+pub(crate) struct Run<'a> {
+    plan: &'a Enumeration,
+    planner: Planner,
     budget: u64,
-    periods: &mut [u32],
-    work: &mut [u32],
-) -> Answer {
-    if keeps {
-        optimizer::best_periods(file, budget, periods, work)
-    } else {
-        optimizer::cheapest_periods(file, budget, periods, work)
-    }
-}
-
-// A task's flag if its own demand exceeds its longest period or its cap, else 0.
-fn alone_flag(rows: &[u32], task: usize, flag: u32) -> u32 {
-    if lesser(column(rows, task, 2), column(rows, task, 3)) < own_demand(rows, task) {
-        flag
-    } else {
-        0
-    }
-}
-
-// The first such task, or 0.
-fn first_alone(rows: &[u32]) -> u32 {
-    first_flag(alone_flag(rows, 0, 1) | alone_flag(rows, 1, 2) | alone_flag(rows, 2, 4))
-}
-
-// 31 at the first task that is infeasible alone, or 32 at the first that misses its deadline at the longest periods.
-fn right_place(r: Answer, rows: &[u32], missed: u32) -> bool {
-    let task = first_alone(rows);
-    if task != 0 {
-        r.fault.number == 31 && r.fault.place == task
-    } else {
-        r.fault.number == 32 && r.fault.place == missed
-    }
-}
-
-// A refusal: nothing is schedulable, and both spaces are untouched.
-fn right_refusal(r: Answer, rows: &[u32], missed: u32, periods: &[u32], work: &[u32]) -> bool {
-    right_place(r, rows, missed)
-        && r.rounds == 0
-        && r.bound == 0
-        && r.cost == 0
-        && all(periods, 7)
-        && all(work, 7)
-}
-
-fn right_answer(r: Answer, rows: &[u32], optimum: &[u32], periods: &[u32], work: &[u32]) -> bool {
-    r.fault.place == 0
-        && r.cost == cost(rows, optimum) as u64
-        && r.bound == 0
-        && begins(optimum, periods)
-        && all(work, 0)
+    room: usize,
 }
 
 // The length of a work space with room for every assignment.
-fn enough(rows: &[u32]) -> usize {
-    product(assignments(rows), tasks(rows)) as usize
+fn enough(plan: &Enumeration) -> usize {
+    (plan.count() as usize).saturating_mul(plan.tasks().len())
 }
 
-// Whether the budget or the room is below the number of assignments, as at every stop.
-fn is_short(rows: &[u32], budget: u64, room: usize) -> bool {
-    budget < assignments(rows) as u64 || room < enough(rows)
-}
+impl<'a> Run<'a> {
+    // Run k of four: with enough budget and room, with little of the one, by number 28 of a sequence, of the other, by
+    // number 29, and of both.
+    pub(crate) fn draw(
+        plan: &'a Enumeration,
+        planner: Planner,
+        sequence: &Sequence,
+        k: usize,
+    ) -> Run<'a> {
+        let tasks = plan.tasks().len() as u32;
+        Run {
+            plan,
+            planner,
+            budget: if k % 2 == 0 {
+                u64::from(plan.count())
+            } else {
+                u64::from(sequence.draw(28, 0..=7))
+            },
+            room: if k < 2 {
+                enough(plan)
+            } else {
+                sequence.draw(29, tasks..=tasks + 7) as usize
+            },
+        }
+    }
 
-// Whether no period is below its lower bound.
-fn not_below(rows: &[u32], periods: &[u32]) -> bool {
-    column(rows, 0, 1) <= at(periods, 0)
-        && column(rows, 1, 1) <= at(periods, 1)
-        && column(rows, 2, 1) <= at(periods, 2)
-}
+    // Whether the budget or the room is below the number of assignments, as at every stop.
+    fn is_short(&self) -> bool {
+        self.budget < u64::from(self.plan.count()) || self.room < enough(self.plan)
+    }
 
-// An incumbent: schedulable periods within the bounds, that cost at least what the cheapest do and at least the bound.
-fn right_incumbent(r: Answer, rows: &[u32], least: u32, periods: &[u32]) -> bool {
-    not_below(rows, periods)
-        && within(rows, periods)
-        && first_missed(rows, periods) == 0
-        && r.cost == cost(rows, periods) as u64
-        && least as u64 <= r.cost
-        && r.bound <= r.cost
-}
+    // Whether periods are an incumbent of that cost: schedulable and within the bounds.
+    fn right_incumbent(&self, cost: u64, periods: &[u32]) -> bool {
+        self.plan.are_within(periods)
+            && first_missed(self.plan.tasks(), periods).is_none()
+            && cost == self.plan.cost_at(periods)
+    }
 
-// What a stop leaves: an incumbent, where one is kept, and else nothing.
-fn right_left(r: Answer, rows: &[u32], keeps: bool, least: u32, periods: &[u32]) -> bool {
-    if keeps {
-        right_incumbent(r, rows, least, periods)
-    } else {
-        r.cost == 0 && all(periods, 7)
+    // What a stop leaves: an incumbent that costs at least what the cheapest does, or from CHEAPEST nothing.
+    fn right_left(&self, least: u64, incumbent: Option<u64>, periods: &[u32]) -> bool {
+        match (self.planner, incumbent) {
+            (Planner::Cheapest, None) => are_all(periods, 7),
+            (Planner::Best, Some(cost)) => least <= cost && self.right_incumbent(cost, periods),
+            _ => false,
+        }
+    }
+
+    fn right_rounds(&self, rounds: u64) -> bool {
+        rounds <= self.budget && rounds <= u64::from(self.plan.count())
+    }
+
+    // An answer, or a stop with a bound of at most the least cost, where assignment `optimum` is the cheapest one.
+    fn right_conclusion(
+        &self,
+        conclusion: Conclusion,
+        optimum: Assignment,
+        periods: &[u32],
+    ) -> bool {
+        let least = self.plan.cost(optimum);
+        match conclusion {
+            Conclusion::Answered { cost, rounds } => {
+                self.right_rounds(rounds)
+                    && cost == least
+                    && self.plan.periods(optimum).starts_with(periods)
+            }
+            Conclusion::Stopped {
+                stop,
+                incumbent,
+                rounds,
+                bound,
+            } => {
+                self.right_rounds(rounds)
+                    && self.is_short()
+                    && (stop == Stop::Room || rounds == self.budget)
+                    && bound <= least
+                    && self.right_left(least, incumbent, periods)
+            }
+        }
+    }
+
+    // Whether all of an answer is that of the enumeration, and BEST's that of the plain rounds. The numbers of both
+    // spaces were 7: a refusal leaves them so.
+    fn is_right(&self, answer: Outcome, periods: &[u32], work: &[u32]) -> bool {
+        match (answer, self.plan.cheapest()) {
+            (Ok(conclusion), Some(optimum)) => {
+                self.right_conclusion(conclusion, optimum, periods)
+                    && are_all(work, 0)
+                    && (self.planner == Planner::Cheapest
+                        || rounds::agrees(answer, self.plan, self.budget, self.room, periods))
+            }
+            (Err(refusal), None) => {
+                refusal_of(self.plan) == Some(refusal) && are_all(periods, 7) && are_all(work, 7)
+            }
+            _ => false,
+        }
+    }
+
+    // The answer on the plan's file, with fresh spaces, where it is right.
+    fn judge(&self, file: &[u8]) -> Option<Outcome> {
+        let mut periods = [7; 3];
+        let mut work = [7; 3 * ASSIGNMENTS];
+        let periods = &mut periods[..self.plan.tasks().len()];
+        let work = &mut work[..self.room.min(3 * ASSIGNMENTS)];
+        let answer = self.planner.choose(file, self.budget, periods, work);
+        if self.is_right(answer, periods, work) {
+            Some(answer)
+        } else {
+            None
+        }
     }
 }
 
-// A stop: 33, at the budget, or 34, with a bound of at most the least cost.
-fn right_stop(r: Answer, least: u32, budget: u64) -> bool {
-    (r.fault.number == 34 || r.fault.number == 33 && r.rounds == budget)
-        && r.fault.place == 0
-        && r.bound <= least as u64
+fn are_all(numbers: &[u32], number: u32) -> bool {
+    numbers.iter().all(|other| *other == number)
 }
 
-fn right_rounds(rounds: u64, rows: &[u32], budget: u64) -> bool {
-    rounds <= budget && rounds <= assignments(rows) as u64
-}
-
-// An answer or a stop, where some periods are schedulable.
-fn right_end(
-    r: Answer,
-    rows: &[u32],
-    optimum: &[u32],
-    keeps: bool,
+// How runs ended: with an answer, by rule 31 or 32, at the budget or for room; and those that were not right.
+#[derive(Clone, Copy, Default)]
+pub(crate) struct Counts {
+    answers: u64,
+    alone: u64,
+    unschedulable: u64,
     budget: u64,
-    periods: &[u32],
-    work: &[u32],
-) -> bool {
-    if r.fault.number == 0 {
-        right_answer(r, rows, optimum, periods, work)
-    } else {
-        let least = cost(rows, optimum);
-        is_short(rows, budget, work.len())
-            && right_stop(r, least, budget)
-            && right_left(r, rows, keeps, least, periods)
-            && all(work, 0)
+    room: u64,
+    differences: u64,
+}
+
+impl Counts {
+    // Compares a run with the enumeration.
+    pub(crate) fn compare(&mut self, run: &Run, file: &[u8]) {
+        let counter = match run.judge(file) {
+            Some(Ok(Conclusion::Answered { .. })) => &mut self.answers,
+            Some(Err(CallError::InfeasibleAlone(_))) => &mut self.alone,
+            Some(Err(CallError::Infeasible(_))) => &mut self.unschedulable,
+            Some(Ok(Conclusion::Stopped { stop, .. })) => match stop {
+                Stop::Budget => &mut self.budget,
+                Stop::Room => &mut self.room,
+            },
+            _ => &mut self.differences,
+        };
+        *counter = counter.saturating_add(1);
     }
 }
 
-// Whether all of an answer is that of the enumeration, and an incumbent's search that of plain rounds.
-fn right(
-    r: Answer,
-    rows: &[u32],
-    met: &[u32],
-    keeps: bool,
-    budget: u64,
-    periods: &[u32],
-    work: &[u32],
-) -> bool {
-    let optimum = optimum(rows, met);
-    let missed = first_missed(rows, &optimum);
-    if missed != 0 {
-        right_refusal(r, rows, missed, periods, work)
-    } else {
-        right_rounds(r.rounds, rows, budget)
-            && right_end(r, rows, &optimum, keeps, budget, periods, work)
-            && (!keeps || rounds::agrees(r, rows, met, budget, work.len(), periods))
+impl fmt::Display for Counts {
+    fn fmt<W: fmt::Write>(&self, f: &mut fmt::Formatter<W>) -> fmt::Result {
+        let Counts {
+            answers,
+            alone,
+            unschedulable,
+            budget,
+            room,
+            differences,
+        } = *self;
+        write!(
+            f,
+            "answers {answers} 31 {alone} 32 {unschedulable} 33 {budget} 34 {room} differences {differences}"
+        )
     }
 }
 
-// Where it is counted what blocking makes of the cheapest assignment, which is number `free` without it, 512 if there
-// is none: 0 none either way, 1 the same, 2 another, 3 none by rule 31, 4 none by rule 32.
-pub(crate) fn change(rows: &[u32], met: &[u32], free: u32) -> usize {
-    let best = least(rows, met);
-    if free == 512 {
-        0
-    } else if best == free {
-        1
-    } else if best < 512 {
-        2
-    } else if first_alone(rows) != 0 {
-        3
-    } else {
-        4
+// What blocking made of the cheapest assignments: none either way, the same, another, none by rule 31, none by 32.
+#[derive(Clone, Copy, Default)]
+pub(crate) struct Changes {
+    neither: u64,
+    same: u64,
+    moved: u64,
+    alone: u64,
+    unschedulable: u64,
+}
+
+impl Changes {
+    pub(crate) fn compare(&mut self, free: &Enumeration, blocked: &Enumeration) {
+        let counter = match (free.cheapest(), blocked.cheapest()) {
+            (None, _) => &mut self.neither,
+            (Some(free), Some(blocked)) if free == blocked => &mut self.same,
+            (Some(_), Some(_)) => &mut self.moved,
+            (Some(_), None) if first_alone(blocked.tasks()).is_some() => &mut self.alone,
+            (Some(_), None) => &mut self.unschedulable,
+        };
+        *counter = counter.saturating_add(1);
     }
 }
 
-// Where a number is counted among the answers, 31, 32, 33, 34 and, as any other, the differences.
-fn counter(number: u32) -> usize {
-    match number {
-        0 => 0,
-        31 => 1,
-        32 => 2,
-        33 => 3,
-        34 => 4,
-        _ => 5,
+impl fmt::Display for Changes {
+    fn fmt<W: fmt::Write>(&self, f: &mut fmt::Formatter<W>) -> fmt::Result {
+        let Changes {
+            neither,
+            same,
+            moved,
+            alone,
+            unschedulable,
+        } = *self;
+        write!(
+            f,
+            "none either way {neither} the same {same} moved {moved} lost to 31 {alone} lost to 32 {unschedulable}"
+        )
     }
-}
-
-// The counter of an answer.
-fn judge(
-    file: &[u8],
-    rows: &[u32],
-    met: &[u32],
-    keeps: bool,
-    budget: u64,
-    periods: &mut [u32],
-    work: &mut [u32],
-) -> usize {
-    let r = optimize(file, keeps, budget, periods, work);
-    if right(r, rows, met, keeps, budget, periods, work) {
-        counter(r.fault.number)
-    } else {
-        5
-    }
-}
-
-// One run, with fresh spaces.
-fn judge_run(
-    file: &[u8],
-    rows: &[u32],
-    met: &[u32],
-    keeps: bool,
-    budget: u64,
-    room: usize,
-) -> usize {
-    let mut periods = [7u32; 3];
-    let mut work = [7u32; 1536];
-    judge(
-        file,
-        rows,
-        met,
-        keeps,
-        budget,
-        first_mut(&mut periods, tasks(rows) as usize),
-        first_mut(&mut work, room),
-    )
-}
-
-// A budget for every assignment, or few rounds by number 28.
-fn budget(sequence: &[u32], k: usize, rows: &[u32]) -> u64 {
-    if k % 2 == 0 {
-        assignments(rows) as u64
-    } else {
-        draw(sequence, 28, 0, 8) as u64
-    }
-}
-
-// Room for every assignment, or for few by number 29.
-fn room(sequence: &[u32], k: usize, rows: &[u32]) -> usize {
-    if k < 2 {
-        enough(rows)
-    } else {
-        draw(sequence, 29, tasks(rows), 8) as usize
-    }
-}
-
-// The first counter of CHEAPEST, or of BEST.
-fn first_counter(keeps: bool) -> usize {
-    if keeps { 13 } else { 6 }
-}
-
-// Compares CHEAPEST, or BEST, with the enumeration in run k of four: with enough budget and room, with little of the
-// one, the other and both.
-pub(crate) fn compare(
-    sequence: &[u32],
-    k: usize,
-    keeps: bool,
-    file: &[u8],
-    rows: &[u32],
-    met: &[u32],
-    counts: &mut [u64],
-) {
-    let budget = budget(sequence, k, rows);
-    let room = room(sequence, k, rows);
-    let counter = judge_run(file, rows, met, keeps, budget, room);
-    add(counts, wrapping_add_usize(first_counter(keeps), counter), 1);
 }

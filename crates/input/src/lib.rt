@@ -1,36 +1,23 @@
 #![tactic(auto)]
 
 // What a program is given on standard input.
-ghost use Rattle.io.specs.Counts.{IsPrefixLen};
+ghost use Rattle.std.specs.Prelude.{◌≤◌, IfOk, length};
 
-use std::io::{Read, Stdin};
+use std::io;
+use std::io::Read;
 
-// How many bytes came, and whether a read failed.
-#[derive(Drop)]
-pub struct Input {
-    pub size: usize,
-    pub failed: bool,
-}
-
-// Reads standard input until the buffer is full, the input ends or a read fails.
-pub fn read_input(mut stdin: Stdin, buffer: &mut [u8]) -> Input
-    ensures { IsPrefixLen result.size buffer.new }
+// Reads the input until the buffer is full or the input ends; how many bytes came.
+pub fn read_input(mut input: impl Read + Drop, buffer: &mut [u8]) -> io::Result<usize>
+    ensures { IfOk result (λ size. size ≤ length buffer.new) }
 {
-    let mut size: usize = 0;
+    let mut size = 0;
+    // No `for`: a turn moves on by as many bytes as came.
     while size < buffer.len() {
-        let Ok(more) = stdin.read(&mut buffer[size..]) else {
-            return Input { size, failed: true };
-        };
+        let more = input.read(&mut buffer[size..])?;
         if more == 0 {
-            return Input {
-                size,
-                failed: false,
-            };
+            break;
         }
         size += more;
     }
-    Input {
-        size,
-        failed: false,
-    }
+    Ok(size)
 }

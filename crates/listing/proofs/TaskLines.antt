@@ -1,21 +1,27 @@
 -- The lines of the tasks.
-use mathlib.Core.Path.{◌≡◌, refl}
+use mathlib.Core.Path.{◌≡◌, refl, sym, ap, ◌∙◌}
 use mathlib.Core.Logic.{inl, inr}
-use mathlib.Core.List.{List, [], ◌∷◌}
-use Prim.Native.Nat.{ℕ, suc, ◌+◌, ◌-◌, ◌*◌, ◌≤◌, ◌<◌}
+use mathlib.Core.List.{List, [], ◌∷◌, ◌++◌}
+use Prim.Native.Nat.{ℕ, zero, suc, ◌+◌, ◌-◌, ◌≤◌, ◌<◌}
 use native.Mathlib.Omega.{arith}
 use native.Mathlib.Nat.{le_trans}
 use native.Mathlib.Numerals.{add-one}
 use lib.Dec.{eqb}
 use lib.ListN.{length, get_or, length-take}
-use Rattle.plan.specs.Layout.{name_width}
+use Rattle.std.specs.Prelude.{unwrap_or}
+use Rattle.plan.specs.declared.record.Plan.{Plan}
+use Rattle.plan.specs.Layout.{name_width, task_count}
 use Rattle.plan.specs.Names.{name_field, without_zeros}
-use Rattle.plan.specs.Files.{is_named}
-use Rattle.plan.specs.Promises.{Names}
+use Rattle.plan.specs.Files.{is_named, name_of}
+use Rattle.plan.specs.Inner.{NameAt}
+use Rattle.plan.specs.Promises.{plan_tasks, Loads, Names}
 use Rattle.plan.proofs.Tests.{bool}
+use Rattle.plan.proofs.Accepted.{tasks-length}
+use Rattle.response.specs.Analysis.{response_time}
+use Rattle.response.specs.Inner.{Limits, some_time}
+use Rattle.response.specs.Promises.{times_of}
+use Rattle.response.proofs.Answers.{times-at}
 use Rattle.listing.specs.Text.{line, decimal, task_lines}
-use Rattle.listing.specs.Inner.{Puts, line_size}
-use Rattle.listing.proofs.Writing.{then, puts-within}
 
 without_zeros-le : (bs : List ℕ) → length (without_zeros bs) ≤ length bs
 without_zeros-le [] = omega arith
@@ -31,32 +37,25 @@ name-le {s = s} {task} n = rw n.bytes (elim (bool (is_named s task)) [
   | inr e ↦ rw e (omega arith)
 ])
 
--- a loop over the tasks stands at i: the lines of as many are stored
-pub record Lined (s xs ts : List ℕ) (at : ℕ) (out₀ : List ℕ) (i end : ℕ) (out : List ℕ) : Type 0 where
-  pub puts : Puts at out₀ (task_lines s xs ts i) (line_size * i) end out
-  pub sized : length out ≡ length out₀
-  pub within : i ≤ length xs
+time-or-zero : (t : ℕ) → unwrap_or (some_time t) 0 ≡ t
+time-or-zero zero = refl
+time-or-zero (suc t) = refl
 
-pub lined-none : (s xs ts : List ℕ) (at : ℕ) (out : List ℕ) → Lined s xs ts at out 0 at out
-lined-none s xs ts at out = record {
-  puts = record { stored = refl; end = omega arith; few = omega arith };
-  sized = refl;
-  within = omega arith;
-}
+-- a task of a file's plan at given periods
+module _ {s : List ℕ} {plan : Plan} {xs : List ℕ} {i : ℕ} (l : Loads s plan) (m : Limits (plan_tasks plan) xs)
+    (h : i < length xs) where
+  count : length (plan_tasks plan) ≡ task_count s
+  count = ap length l.tasks ∙ tasks-length s l.accepts
 
-module _ {s xs ts : List ℕ} {at : ℕ} {out₀ : List ℕ} {i end : ℕ} {out : List ℕ} (p : Lined s xs ts at out₀ i end out) where
-  pub lined-more : {q q' : ℕ × ℕ} {r : ℕ} {name out' : List ℕ} → i < length xs → Names q s (i + 1) q' name
-      → Puts end out (line (name ∷ decimal (get_or xs i 0) ∷ decimal (get_or ts i 0) ∷ [])) (length name + 43) r out'
-      → length out' ≡ length out
-      → Lined s xs ts at out₀ (i + 1) r out'
-  lined-more h n w l =
-      let k = name-le n in
-      let one = rw n.bytes at (puts-within line_size (omega arith) w) in
-      rw add-one (record {
-        puts = puts-within (line_size * suc i) (omega arith) (then p.puts one);
-        sized = omega arith;
-        within = omega arith;
-      })
+  pub has-name : NameAt s plan.names i
+  has-name = record { accepts = l.accepts; inside = omega (arith, count, m.sized); begins = l.names }
 
-  pub lined-all : length xs ≤ i → Puts at out₀ (task_lines s xs ts (length xs)) (line_size * length xs) end out
-  lined-all h = let e : i ≡ length xs = omega arith in rw e at p.puts
+  time-is : unwrap_or (some_time (response_time (plan_tasks plan) xs i)) 0 ≡ get_or (times_of s xs) i 0
+  time-is =
+      rw (← l.tasks) (time-or-zero _ ∙ sym (times-at (plan_tasks plan) xs i (omega (arith, m.sized))))
+
+  pub line-more : {name : List ℕ} {time : ℕ} → name ≡ name_of s (i + 1)
+      → time ≡ unwrap_or (some_time (response_time (plan_tasks plan) xs i)) 0
+      → task_lines s xs (times_of s xs) i ++ line (name ∷ decimal (get_or xs i 0) ∷ decimal time ∷ [])
+      ≡ task_lines s xs (times_of s xs) (i + 1)
+  line-more {time = time} n t = let e : time ≡ get_or (times_of s xs) i 0 = t ∙ time-is in rw (add-one, n, e)

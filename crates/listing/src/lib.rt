@@ -1,11 +1,12 @@
 #![tactic(auto)]
 
 // The listing of a plan: the text that program `timetable` writes.
-mod writer; // writer.rt: texts and numbers, one after another, into a lent buffer
+mod writer; // writer.rt: fields, one after another, at the end of a text
 mod lines; // lines.rt: the lines of a listing
 mod listing; // listing.rt: the whole text
 
-pub use listing::{INPUT_SIZE, LISTING_SIZE, list_input, list_plan};
+pub use listing::{INPUT_SIZE, list_input, list_plan};
+pub use writer::Listing;
 
 // for the other programs
-pub use listing::{REFUSAL_SIZE, list_refusal};
+pub use lines::list_refusal;

@@ -1,60 +1,82 @@
-ghost use Rattle.std.specs.Prelude.{[], ◌∷◌, ◌+◌, ◌*◌, ◌≤◌, length};
-ghost use Rattle.listing.specs.Text.{fields, line, decimal, rounds_word, refusal_fields, task_lines};
-ghost use Rattle.listing.specs.Inner.{Puts, line_size, HasLines};
+ghost use Rattle.std.specs.Prelude.{◌≡◌, [], ◌∷◌, ◌++◌, ◌+◌, ◌*◌, ◌≤◌, length};
+ghost use Rattle.plan.specs.Tasks.{max_tasks};
+ghost use Rattle.plan.specs.Promises.{Loads};
+ghost use Rattle.response.specs.Promises.{times_of};
+ghost use Rattle.optimizer.specs.Answers.{stop_fault};
+ghost use Rattle.listing.specs.Text.{decimal, fields, line, refusal_fields, task_lines};
+ghost use Rattle.listing.specs.Text.{cost_word, bound_word, rounds_word};
+ghost use Rattle.listing.specs.Inner.{line_size, listing_size};
 
-use super::writer::{put_labelled, put_number};
-use plan::{Fault, wide};
+use super::writer::{Listing, put_labelled, put_number};
+use optimizer::Stop;
+use plan::Fault;
+use response::Assignment;
 
-// The end of a line, or all of it: a number after its label, and the rounds after theirs.
-pub fn put_rounds(out: &mut [u8], at: usize, label: &[u8], n: u64, rounds: u64) -> usize
-    requires { at + (length label.now + 50) ≤ length out.old }
-    ensures { let l = label.now in
-        let text = line (l ∷ decimal n ∷ rounds_word ∷ decimal rounds ∷ []) in
-        Puts at out.old text (length l + 50) result out.new }
+// A refusal's number and place, and the byte after them.
+fn refusal(fault: Fault, end: u8) -> Listing
+    ensures puts { result.items ≡ fields (refusal_fields fault) end }
+    ensures few { length result.items ≤ 50 }
 {
-    let mid = put_labelled(out, at, label, n, b' ');
-    put_labelled(out, mid, b"rounds", rounds, b'\n')
+    let mut text = Listing::new();
+    put_labelled(&mut text, b"refused", u64::from(fault.number), b' ');
+    put_number(&mut text, u64::from(fault.place), end);
+    text
 }
 
-// A refusal's number and place, and a byte.
-pub fn put_refusal(out: &mut [u8], fault: Fault, end: u8) -> usize
-    requires { 50 ≤ length out.old }
-    ensures { Puts 0 out.old (fields (refusal_fields fault) end) 50 result out.new }
+// A refusal's line.
+pub fn list_refusal(fault: Fault) -> Listing
+    ensures { result.items ≡ line (refusal_fields fault) }
 {
-    let mid = put_labelled(out, 0, b"refused", wide(fault.number), b' ');
-    put_number(out, mid, wide(fault.place), end)
+    refusal(fault, b'\n')
+}
+
+// A stop's line, with its bound and its rounds.
+pub fn list_stop(stop: Stop, bound: u64, rounds: u64) -> Listing
+    ensures { result.items ≡ line
+        (refusal_fields (stop_fault stop) ++ (bound_word ∷ decimal bound ∷ rounds_word ∷ decimal rounds ∷ [])) }
+{
+    let mut text = refusal(stop.into(), b' ');
+    put_labelled(&mut text, b"bound", bound, b' ');
+    put_labelled(&mut text, b"rounds", rounds, b'\n');
+    text
 }
 
 // A task's line: its name, its period and its response time.
-pub fn put_task(out: &mut [u8], at: usize, name: &[u8], period: u32, time: u32) -> usize
-    requires { at + (length name.now + 43) ≤ length out.old }
-    ensures { let text = line (name.now ∷ decimal period ∷ decimal time ∷ []) in
-        Puts at out.old text (length name.now + 43) result out.new }
+fn put_task(text: &mut Listing, name: &[u8], period: u32, time: u32)
+    requires { length text.old.items + (length name.now + 43) ≤ listing_size }
+    ensures puts { text.new.items
+        ≡ text.old.items ++ line (name.now ∷ decimal period ∷ decimal time ∷ []) }
+    ensures few { length text.new.items ≤ length text.old.items + (length name.now + 43) }
 {
-    let mid = put_labelled(out, at, name, wide(period), b' ');
-    put_number(out, mid, wide(time), b'\n')
+    put_labelled(text, name, u64::from(period), b' ');
+    put_number(text, u64::from(time), b'\n');
 }
 
-// The lines of a file's tasks, which have these periods and response times; its names begin at an offset.
-pub fn put_tasks(
-    out: &mut [u8],
-    at: usize,
-    file: &[u8],
-    names: usize,
-    periods: &[u32],
-    times: &[u32],
-) -> usize
-    requires { HasLines file.now names periods.now times.now at out.old }
-    ensures { let xs = periods.now in
-        let text = task_lines file.now xs times.now (length xs) in
-        Puts at out.old text (line_size * length xs) result out.new }
+// The lines of a file's tasks at given periods. As TIMES has it, the time of a task that misses its deadline is 0.
+fn put_tasks(text: &mut Listing, file: &[u8], assignment: &Assignment)
+    requires room { length text.old.items + line_size * max_tasks ≤ listing_size }
+    requires loads { Loads file.now assignment.now.plan.now }
+    ensures { let xs = assignment.now.periods.now in
+        text.new.items ≡ text.old.items ++ task_lines file.now xs (times_of file.now xs) (length xs) }
 {
-    let mut end = at;
-    let mut i: usize = 0;
-    while i < periods.len() {
-        let name = plan::name_at(file, names, i);
-        end = put_task(out, end, name, periods[i], times[i]);
-        i += 1;
+    for (i, &period) in assignment.periods.iter().enumerate() {
+        let name = plan::name_at(file, assignment.plan.names, i);
+        let time = assignment.response_time(i).unwrap_or(0);
+        put_task(text, name, period, time);
     }
-    end
+}
+
+// An answer: its cost and its rounds, then the lines of the file's tasks.
+pub fn list_answer(file: &[u8], assignment: &Assignment, cost: u64, rounds: u64) -> Listing
+    requires { Loads file.now assignment.now.plan.now }
+    ensures { let xs = assignment.now.periods.now in
+        result.items
+        ≡ line (cost_word ∷ decimal cost ∷ rounds_word ∷ decimal rounds ∷ [])
+        ++ task_lines file.now xs (times_of file.now xs) (length xs) }
+{
+    let mut text = Listing::new();
+    put_labelled(&mut text, b"cost", cost, b' ');
+    put_labelled(&mut text, b"rounds", rounds, b'\n');
+    put_tasks(&mut text, file, assignment);
+    text
 }

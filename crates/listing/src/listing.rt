@@ -1,89 +1,60 @@
-ghost use Rattle.std.specs.Prelude.{◌≡◌, ◌≤◌, length, take};
-ghost use Rattle.listing.specs.Text.{line, refusal_fields};
-ghost use Rattle.listing.specs.Inner.{Listable};
-ghost use Rattle.listing.specs.Promises.{Prints, ListsPlan, input_size, timetable_of};
+ghost use Rattle.std.specs.Prelude.{◌≡◌, length, MatchResult};
+ghost use Rattle.plan.specs.Files.{tasks_of};
+ghost use Rattle.optimizer.specs.Promises.{outcome, cleared};
+ghost use Rattle.listing.specs.Text.{line, refusal_fields, listing_of};
+ghost use Rattle.listing.specs.Promises.{timetable_of};
 
-use super::lines::{put_refusal, put_rounds, put_tasks};
-use plan::{Fault, Loaded, Plan};
-
-// A buffer for a listing: a first line of 54 bytes and 16 lines of 59 fit.
-pub const LISTING_SIZE: usize = 1024;
-
-// A buffer for a refusal's line.
-pub const REFUSAL_SIZE: usize = 50;
+use super::lines::{list_answer, list_refusal, list_stop};
+use super::writer::Listing;
+use optimizer::{Conclusion, WORK};
+use plan::{Fault, Plan};
+use response::Assignment;
 
 // One byte more than a plan file may have, so that a longer one is refused for its length.
-pub const INPUT_SIZE: usize = 2_049;
+pub const INPUT_SIZE: usize = Plan::MAX_FILE + 1;
 
 const BUDGET: u64 = 100_000;
 
-const WORK: usize = 16_000;
-
-// From this number on a call stopped, and has a bound.
-const FIRST_STOP: u32 = 33;
-
-// The listing of a file that was loaded, with spaces for the periods and the response times of its tasks.
-fn list_with(
-    file: &[u8],
-    loaded: Loaded,
-    budget: u64,
-    work: &mut [u32],
-    periods: &mut [u32],
-    times: &mut [u32],
-    out: &mut [u8],
-) -> usize
-    requires { Listable file.now loaded periods.old times.old out.old }
-    ensures { ListsPlan file.now budget work.old work.new
-        out.old out.new result }
+// The text of an answer or a stop, or else the refusal.
+fn list_conclusion(file: &[u8], budget: u64, work: &mut [u32]) -> Result<Listing, Fault>
+    ensures prints { let text = listing_of file.now budget (length work.old) in
+        MatchResult result (λ listing. listing.items ≡ text) (λ fault. line (refusal_fields fault) ≡ text) }
+    ensures work { let s = file.now in
+        work.new ≡ cleared (outcome s budget (length (tasks_of s)) (length work.old)) work.old }
 {
-    let answer = optimizer::cheapest_of(loaded, budget, periods, work);
-    let fault = answer.fault;
-    if fault.number == 0 {
-        response::times_of(loaded, periods, times);
-        let head = put_rounds(out, 0, b"cost", answer.cost, answer.rounds);
-        return put_tasks(out, head, file, loaded.names, periods, times);
+    let plan = plan::load_plan(file)?;
+    let mut space = plan.column(|_| 0);
+    let periods = space.as_mut_slice();
+    match optimizer::cheapest_of(&plan, budget, periods, work)? {
+        Conclusion::Answered { cost, rounds } => {
+            let assignment = Assignment {
+                plan: &plan,
+                periods,
+            };
+            Ok(list_answer(file, &assignment, cost, rounds))
+        }
+        Conclusion::Stopped {
+            stop,
+            rounds,
+            bound,
+            ..
+        } => Ok(list_stop(stop, bound, rounds)),
     }
-    if fault.number < FIRST_STOP {
-        return put_refusal(out, fault, b'\n');
-    }
-    let head = put_refusal(out, fault, b' ');
-    put_rounds(out, head, b"bound", answer.bound, answer.rounds)
 }
 
-// The text of a plan's cheapest periods, or of the refusal or the stop, at the start of the buffer; answers its length.
-pub fn list_plan(file: &[u8], budget: u64, work: &mut [u32], out: &mut [u8; LISTING_SIZE]) -> usize
-    ensures { ListsPlan file.now budget work.old work.new
-        out.old out.new result }
+// The text of a plan's cheapest periods, or of the refusal or the stop.
+pub fn list_plan(file: &[u8], budget: u64, work: &mut [u32]) -> Listing
+    ensures prints { result.items ≡ listing_of file.now budget (length work.old) }
+    ensures work { let s = file.now in
+        work.new ≡ cleared (outcome s budget (length (tasks_of s)) (length work.old)) work.old }
 {
-    let loaded = plan::load_plan(file);
-    let n = loaded.plan.tasks;
-    let mut periods = [0u32; Plan::MAX_TASKS];
-    let mut times = [0u32; Plan::MAX_TASKS];
-    list_with(
-        file,
-        loaded,
-        budget,
-        work,
-        &mut periods[..n],
-        &mut times[..n],
-        out,
-    )
+    list_conclusion(file, budget, work).unwrap_or_else(list_refusal)
 }
 
-// What program `timetable` writes of the first bytes of its input, so many.
-pub fn list_input(input: &[u8; INPUT_SIZE], size: usize, out: &mut [u8; LISTING_SIZE]) -> usize
-    requires { (length input.now ≡ input_size) × (size ≤ input_size) }
-    ensures { Prints (timetable_of (take size input.now))
-        out.old out.new result }
+// What program `timetable` writes of its input.
+pub fn list_input(input: &[u8]) -> Listing
+    ensures { result.items ≡ timetable_of input.now }
 {
-    let bytes: &[u8] = input;
     let mut work = [0u32; WORK];
-    list_plan(&bytes[..size], BUDGET, &mut work, out)
-}
-
-// The line of a refusal by itself.
-pub fn list_refusal(fault: Fault, out: &mut [u8; REFUSAL_SIZE]) -> usize
-    ensures { Prints (line (refusal_fields fault)) out.old out.new result }
-{
-    put_refusal(out, fault, b'\n')
+    list_plan(input, BUDGET, &mut work)
 }

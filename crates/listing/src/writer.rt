@@ -1,38 +1,41 @@
-ghost use Rattle.std.specs.Prelude.{[], ◌∷◌, ◌+◌, ◌≤◌, length};
+ghost use Rattle.std.specs.Prelude.{◌≡◌, [], ◌∷◌, ◌++◌, ◌+◌, ◌≤◌, length};
 ghost use Rattle.listing.specs.Text.{decimal, fields};
-ghost use Rattle.listing.specs.Inner.{Puts};
+ghost use Rattle.listing.specs.Inner.{listing_size};
 
-// Puts a text from index at on, and a byte after it; answers the index after that.
-pub fn put_text(out: &mut [u8], at: usize, text: &[u8], end: u8) -> usize
-    requires { at + (length text.now + 1) ≤ length out.old }
-    ensures { let t = text.now in
-        Puts at out.old (fields (t ∷ []) end) (length t + 1) result out.new }
+use arrayvec::ArrayVec;
+use itoa::Buffer;
+
+// A first line of 54 bytes and 16 lines of 59 fit.
+const LISTING_SIZE: usize = 1024;
+
+// A listing's text. Fields are put one by one: `write!` promises its bytes where it succeeds, but not that it does.
+pub type Listing = ArrayVec<u8, LISTING_SIZE>;
+
+// Appends a field and the byte after it.
+pub fn put(text: &mut Listing, field: &[u8], end: u8)
+    requires { length text.old.items + (length field.now + 1) ≤ listing_size }
+    ensures { text.new.items ≡ text.old.items ++ fields (field.now ∷ []) end }
 {
-    let mut k = 0;
-    while k < text.len() {
-        out[at + k] = text[k];
-        k += 1;
-    }
-    out[at + k] = end;
-    at + k + 1
+    text.try_extend_from_slice(field).unwrap();
+    text.push(end);
 }
 
-// A number's digits, of which there are 20 at most, and a byte.
-pub fn put_number(out: &mut [u8], at: usize, n: u64, end: u8) -> usize
-    requires { at + 21 ≤ length out.old }
-    ensures { Puts at out.old (fields (decimal n ∷ []) end) 21 result out.new }
+// Appends a number, which has 20 digits at most, and the byte after it.
+#[tactic(auto, using(crate::proofs::Decimal::printed_decimal))]
+pub fn put_number(text: &mut Listing, number: u64, end: u8)
+    requires { length text.old.items + 21 ≤ listing_size }
+    ensures puts { text.new.items ≡ text.old.items ++ fields (decimal number ∷ []) end }
+    ensures few { length text.new.items ≤ length text.old.items + 21 }
 {
-    let mut text = [0u8; 20];
-    let k = io::decimal(n, &mut text);
-    put_text(out, at, &text[..k], end)
+    put(text, Buffer::new().format(number).as_bytes(), end);
 }
 
-// A word, a space, a number and a byte.
-pub fn put_labelled(out: &mut [u8], at: usize, label: &[u8], n: u64, end: u8) -> usize
-    requires { at + (length label.now + 22) ≤ length out.old }
-    ensures { let l = label.now in
-        Puts at out.old (fields (l ∷ decimal n ∷ []) end) (length l + 22) result out.new }
+// Appends a word, a number and the byte after it.
+pub fn put_labelled(text: &mut Listing, label: &[u8], number: u64, end: u8)
+    requires { length text.old.items + (length label.now + 22) ≤ listing_size }
+    ensures puts { text.new.items ≡ text.old.items ++ fields (label.now ∷ decimal number ∷ []) end }
+    ensures few { length text.new.items ≤ length text.old.items + (length label.now + 22) }
 {
-    let mid = put_text(out, at, label, b' ');
-    put_number(out, mid, n, end)
+    put(text, label, b' ');
+    put_number(text, number, end);
 }

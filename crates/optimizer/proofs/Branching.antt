@@ -9,7 +9,7 @@ use lib.Dec.{ltb}
 use lib.ListN.{length, get_or}
 use lib.Seq.{get_or-set_same, get_or-set_other}
 use borrow.Author.Tests.{ltb-true, lt-ltb}
-use Rattle.plan.specs.declared.record.Task.{Task}
+use Rattle.plan.specs.declared.tasks.Task.{Task}
 use Rattle.plan.specs.Lists.{same}
 use Rattle.plan.specs.Tasks.{period_mins, period_maxs}
 use Rattle.plan.proofs.Tests.{bool, le-or-lt, eq-or-ne, both}

@@ -1,54 +1,77 @@
 -- From the rules in their order and the search to a call's outcome: 22 and 24 after the file's own, then 31, 32 and the search.
-use mathlib.Core.Path.{◌≡◌, ap, ◌∙◌}
+use mathlib.Core.Path.{◌≡◌, refl, sym, ap, ◌∙◌}
 use mathlib.Core.Bool.{Bool, true, false}
 use mathlib.Core.Logic.{inl, inr}
 use mathlib.Core.List.{List}
-use Prim.Native.Nat.{ℕ, ◌≤◌, ◌<◌}
+use Prim.Native.Nat.{ℕ, suc, ◌+◌, ◌≤◌, ◌<◌}
+use native.Mathlib.Nat.{sub-zero}
 use native.Mathlib.Omega.{arith}
 use lib.ListN.{length, replicate}
 use borrow.Author.Tests.{eq-eqb, ne_eqb, lt-leb, lt-ltb, le-ltb}
-use Rattle.plan.specs.declared.record.Task.{Task}
+use Rattle.std.specs.List.{AllWithin, HoldsAt}
+use Rattle.plan.specs.declared.tasks.Task.{Task}
 use Rattle.plan.specs.declared.faults.Fault.{Fault}
-use Rattle.plan.specs.Faults.{fault, passed}
-use Rattle.plan.specs.Tasks.{AllValid, period_maxs, weights}
+use Rattle.plan.specs.Faults.{fault, none, passed}
+use Rattle.plan.specs.Tasks.{max_tasks, no_task, AllValid, period_maxs, weights}
 use Rattle.plan.proofs.Tests.{not-false}
-use Rattle.plan.proofs.Rules.{or-next, or-here}
+use Rattle.plan.proofs.Rules.{or-next, or-here, run-all, run-skip, run-task}
 use Rattle.response.specs.Analysis.{schedulable, response_times, first_missed}
 use Rattle.response.specs.Inner.{Limits}
 use Rattle.response.proofs.Bounds.{maxs-within}
 use Rattle.response.proofs.Ranges.{ranged, limits-within}
-use Rattle.response.proofs.Missed.{schedulable-first}
-use Rattle.optimizer.specs.declared.answer.Answer.{Answer}
+use Rattle.response.proofs.Missed.{schedulable-first, first-schedulable}
+use Rattle.optimizer.specs.declared.conclusion.Answer.{Answer}
+use Rattle.optimizer.specs.declared.errors.CallError.{CallError}
+use Rattle.optimizer.specs.declared.errors.CallError.TheVariants.{Read, PeriodsLength, WorkLength, InfeasibleAlone, Infeasible}
+use Rattle.optimizer.specs.Answers.{call_error_fault, refused_answer}
 use Rattle.optimizer.specs.Rule.{End}
 use Rattle.optimizer.specs.Search.{incumbent_search}
-use Rattle.optimizer.specs.Inner.{Concludes, ended_by, Ends, Leaves}
-use Rattle.optimizer.specs.Promises.{call_fault, infeasible_fault, Outcome, refused, concluded, called}
+use Rattle.optimizer.specs.Inner.{Concludes, Searchable, ended_by, Ends, Leaves}
+use Rattle.optimizer.specs.Promises.{call_fault, infeasible_alone, alone_fault, infeasible_fault, Outcome, refused, concluded, called}
 use Rattle.optimizer.specs.Promises.{is_searched}
+use Rattle.plan.proofs.Numbers.{read-error-numbers}
 use Rattle.optimizer.proofs.Guarantees.{search-optimal}
-use Rattle.optimizer.proofs.Settled.{of_two, sound, alone, tasks-break}
+use Rattle.optimizer.proofs.Settled.{sound, alone, tasks-pass}
 use Rattle.optimizer.proofs.Improving.{incumbent-first, lawful-incumbent}
 
--- a refusal leaves both spaces as they were
-module _ {f : Fault} {o w : List ℕ} {r : Answer} (h : f.number ≡ 0 → ⊥) (e : r ≡ (refused f).answer) where
-  leaves-refused : (keeps : Bool) → f.number < 33 → Leaves keeps (refused f) o o w w r
-  leaves-refused true l = record {
-    answer = e;
-    periods = rw (ne_eqb _ 0 h, lt-leb 33 _ l);
-    work = rw (ne_eqb _ 0 h, lt-leb 33 _ l);
+-- a refusal has a number, below those of a stop
+pub call-error-numbers : (e : CallError) → (1 ≤ (call_error_fault e).number) × ((call_error_fault e).number ≤ 32)
+call-error-numbers (Read e) = (omega (arith, read-error-numbers e), omega (arith, read-error-numbers e))
+call-error-numbers PeriodsLength = (omega arith, omega arith)
+call-error-numbers WorkLength = (omega arith, omega arith)
+call-error-numbers (InfeasibleAlone task) = (omega arith, omega arith)
+call-error-numbers (Infeasible task) = (omega arith, omega arith)
+
+-- and leaves both spaces as they were
+module _ (e : CallError) where
+  abbrev f : Fault
+  f = call_error_fault e
+
+  pub error-some : f.number ≡ 0 → ⊥
+  error-some z = omega (arith, call-error-numbers e)
+
+  leaves-refused : (keeps : Bool) {o w : List ℕ} → Leaves keeps (refused f) o o w w (refused_answer f)
+  leaves-refused true = record {
+    answer = refl;
+    periods = rw (ne_eqb _ 0 error-some, lt-leb 33 f.number (omega (arith, call-error-numbers e)));
+    work = rw (ne_eqb _ 0 error-some, lt-leb 33 f.number (omega (arith, call-error-numbers e)));
   }
-  leaves-refused false l = record { answer = e; periods = rw (ne_eqb _ 0 h); work = rw (ne_eqb _ 0 h, lt-leb 33 _ l) }
+  leaves-refused false = record {
+    answer = refl;
+    periods = rw (ne_eqb _ 0 error-some);
+    work = rw (ne_eqb _ 0 error-some, lt-leb 33 f.number (omega (arith, call-error-numbers e)));
+  }
 
-  pub concluded-refused : (keeps : Bool) (ts : List Task) (x : Outcome) → infeasible_fault ts ≡ f → Leaves keeps (concluded ts x) o o w w r
-  concluded-refused keeps ts x q =
-      let b = of_two 31 (rw q at (tasks-break ts) h).0 in
-      rw (q, ne_eqb _ 0 h) (leaves-refused keeps (omega arith))
+  pub concluded-refused : (keeps : Bool) (ts : List Task) (x : Outcome) {o w : List ℕ} → f ≡ infeasible_fault ts
+      → Leaves keeps (concluded ts x) o o w w (refused_answer f)
+  concluded-refused keeps ts x q = rw (← q, ne_eqb _ 0 error-some) (leaves-refused keeps)
 
-  pub called-refused : (keeps : Bool) (g : Fault) (ts : List Task) (x : Outcome) → call_fault g ts (length o) (length w) ≡ f
-      → f.number < 33 → Leaves keeps (called g ts (length o) (length w) x) o o w w r
-  called-refused keeps g ts x q l = rw (q, ne_eqb _ 0 h) (leaves-refused keeps l)
+  pub called-refused : (keeps : Bool) (g : Fault) (ts : List Task) (x : Outcome) {o w : List ℕ} → f ≡ call_fault g ts (length o) (length w)
+      → Leaves keeps (called g ts (length o) (length w) x) o o w w (refused_answer f)
+  called-refused keeps g ts x q = rw (← q, ne_eqb _ 0 error-some) (leaves-refused keeps)
 
-pub longest-limits : {ts : List Task} {o w : List ℕ} → Concludes ts o w → Limits ts (period_maxs ts)
-longest-limits {ts} g = limits-within ts g.valid (maxs-within ts (ranged ts g.valid)) g.few
+pub longest-limits : (ts : List Task) → AllValid ts → length ts ≤ max_tasks → Limits ts (period_maxs ts)
+longest-limits ts v few = limits-within ts v (maxs-within ts (ranged ts v)) few
 
 -- a search leaves the work space cleared
 module _ (e : End (List ℕ)) (k : is_searched e.number ≡ true) (ws o : List ℕ) {o' w w' : List ℕ} {r : Answer} where
@@ -66,29 +89,61 @@ searched-number ts v t budget room =
       | inr p ↦ elim p [ inl q ↦ rw q | inr q ↦ rw q ]
     ]
 
--- 31 and 32, in the words of the functions that look for them
+-- 31: the first task that it refuses, as it is looked for
 module _ (ts : List Task) where
-  pub is-alone : {f : Fault} → f ≡ alone ts → (f.number ≡ 0 → ⊥) → infeasible_fault ts ≡ f
+  abbrev Passes : Task → Type 0
+  Passes t = infeasible_alone t ≡ false
+
+  alone-passes : (n : ℕ) → AllWithin Passes ts 0 n → (k : ℕ) → k < n → (alone_fault ts k).number ≡ 0
+  alone-passes n h k l = rw (h k no_task (omega arith) l)
+
+  pub alone-none : AllWithin Passes ts 0 (length ts) → alone ts ≡ none
+  alone-none h = run-all (alone_fault ts) (length ts) 0 (λ k a b. alone-passes (length ts) h k (omega arith))
+
+  pub alone-some : (i : ℕ) → (i < length ts) × HoldsAt (λ t. infeasible_alone t ≡ true) ts i × AllWithin Passes ts 0 i
+      → alone ts ≡ fault 31 (i + 1)
+  alone-some i (l, here, before) =
+      let e : 0 + i ≡ i = omega arith in
+      rw (sub-zero (length ts), e) at (run-skip (alone_fault ts) (length ts) 0 i (omega arith) (λ k a b. alone-passes i before k (omega arith)))
+      ∙ run-task (alone_fault ts) (length ts) i 30 l (rw (here no_task))
+
+-- then 32
+module _ (ts : List Task) where
+  pub is-alone : (e : CallError) → call_error_fault e ≡ alone ts → call_error_fault e ≡ infeasible_fault ts
   unfolding infeasible_fault
-  is-alone e h = rw e (or-here (alone ts) _ (rw e at h))
+  is-alone e q = q ∙ sym (or-here (alone ts) _ (rw q at (error-some e)))
 
-  module _ (e : (alone ts).number ≡ 0) where
-    pub is_none : {p : ℕ} → p ≡ first_missed (response_times ts (period_maxs ts)) → (p ≡ 0 → ⊥) → infeasible_fault ts ≡ fault 32 p
+  module _ (e : none ≡ alone ts) where
+    passes-alone : (alone ts).number ≡ 0
+    passes-alone = ap (λ f. f.number) (sym e)
+
+    pub is_none : {i : ℕ} → suc i ≡ first_missed (response_times ts (period_maxs ts)) → fault 32 (i + 1) ≡ infeasible_fault ts
     unfolding infeasible_fault
-    is_none q h =
-        let f : schedulable ts (period_maxs ts) ≡ false = not-false (λ t. h (q ∙ schedulable-first ts (period_maxs ts) t)) in
-        or-next (alone ts) _ e ∙ rw (f, q)
+    is_none {i} q =
+        let f : schedulable ts (period_maxs ts) ≡ false =
+        not-false (λ t. let z = schedulable-first ts (period_maxs ts) t in omega arith) in
+        let p : i + 1 ≡ first_missed (response_times ts (period_maxs ts)) = omega arith in
+        sym (or-next (alone ts) _ passes-alone ∙ rw (f, p))
 
-    is-feasible : schedulable ts (period_maxs ts) ≡ true → (infeasible_fault ts).number ≡ 0
+    pub is-feasible : 0 ≡ first_missed (response_times ts (period_maxs ts)) → none ≡ infeasible_fault ts
     unfolding infeasible_fault
-    is-feasible t = ap (λ k. k.number) (or-next (alone ts) _ e) ∙ rw t
+    is-feasible q = sym (or-next (alone ts) _ passes-alone ∙ rw (first-schedulable ts (period_maxs ts) (sym q)))
 
-    pub concluded-searched : AllValid ts → schedulable ts (period_maxs ts) ≡ true
-        → (keeps : Bool) (budget room : ℕ) {o o' w w' : List ℕ} {r : Answer}
+  -- nothing of both: the search
+  module _ (e : none ≡ infeasible_fault ts) where
+    passes : (infeasible_fault ts).number ≡ 0
+    passes = ap (λ f. f.number) (sym e)
+
+    pub searchable : {o w : List ℕ} → Concludes ts o w → Searchable ts o w
+    searchable g = record { given = g; top = tasks-pass ts passes }
+
+    pub concluded-searched : AllValid ts → (keeps : Bool) (budget room : ℕ) {o o' w w' : List ℕ} {r : Answer}
         → let x = ended_by keeps (weights ts) (incumbent_search ts budget room) in
         Ends keeps x o o' r → w' ≡ replicate (length w) 0 → Leaves keeps (concluded ts x) o o' w w' r
-    concluded-searched v t keeps budget room {o} x c =
-        rw (eq-eqb _ 0 (is-feasible t)) (leaves-searched (incumbent_search ts budget room) (searched-number ts v t budget room) (weights ts) o keeps x c)
+    concluded-searched v keeps budget room {o} x c =
+        rw (eq-eqb _ 0 passes)
+        (leaves-searched (incumbent_search ts budget room) (searched-number ts v (tasks-pass ts passes) budget room) (weights ts) o
+        keeps x c)
 
 -- the rules before the search's own
 module _ (f : Fault) (ts : List Task) (space work : ℕ) where
@@ -97,14 +152,14 @@ module _ (f : Fault) (ts : List Task) (space work : ℕ) where
   call-file h = or-here f _ h
 
   module _ (e : f.number ≡ 0) where
-    pub call-space : (space ≡ length ts → ⊥) → call_fault f ts space work ≡ fault 22 0
+    pub call-space : (space ≡ length ts → ⊥) → fault 22 0 ≡ call_fault f ts space work
     unfolding call_fault
-    call-space h = or-next f _ e ∙ rw (ne_eqb space (length ts) h)
+    call-space h = sym (or-next f _ e ∙ rw (ne_eqb space (length ts) h))
 
     module _ (h : space ≡ length ts) where
-      pub call-work : work < length ts → call_fault f ts space work ≡ fault 24 0
+      pub call-work : work < length ts → fault 24 0 ≡ call_fault f ts space work
       unfolding call_fault
-      call-work l = or-next f _ e ∙ rw (eq-eqb space (length ts) h, lt-ltb work (length ts) l)
+      call-work l = sym (or-next f _ e ∙ rw (eq-eqb space (length ts) h, lt-ltb work (length ts) l))
 
       pub call_passes : length ts ≤ work → passed (call_fault f ts space work) ≡ true
       unfolding call_fault

@@ -6,7 +6,7 @@ use mathlib.Core.List.{List, [], ◌∷◌, ◌++◌, map}
 use Prim.Native.Nat.{ℕ, zero, suc, ◌+◌, ◌-◌, ◌*◌, ◌≤◌, ◌<◌}
 use native.Mathlib.Omega.{arith}
 use lib.ListN.{length, length-append}
-use Rattle.plan.specs.declared.record.Task.{Task}
+use Rattle.plan.specs.declared.tasks.Task.{Task}
 use Rattle.plan.proofs.Tests.{bool, le-or-lt, eq-or-ne}
 use Rattle.response.specs.Assignments.{assignment_count}
 use Rattle.response.proofs.Bounds.{Within}

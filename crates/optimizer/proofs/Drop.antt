@@ -17,10 +17,12 @@ use Rattle.response.specs.Assignments.{dominates}
 use Rattle.response.proofs.Dominance.{at-most-dominates, not-dominates}
 use Rattle.optimizer.specs.Nodes.{dominates_some}
 use Rattle.optimizer.specs.Search.{child}
-use Rattle.optimizer.specs.Inner.{node_at, nodes, Above, drops, in_range, DroppedBy, Expands, Dropped}
+use Rattle.optimizer.specs.Inner.{open_nodes, Above, drops, in_range, DroppedBy, Expands, Dropped}
 use Rattle.optimizer.specs.declared.children.Drops.{Drops}
 use Rattle.optimizer.specs.declared.children.Drops.TheVariants.{All, One, Nothing}
-use Rattle.optimizer.proofs.Space.{length-nodes, nodes-at}
+use Rattle.optimizer.specs.declared.nodes.OpenNodes.{OpenNodes}
+use Rattle.optimizer.proofs.Space.{nodes-at}
+use Rattle.optimizer.proofs.Scans.{weights_of, node_of, listed-long}
 
 -- one place of the first i where q exceeds the node, and nowhere else
 pub record Once (q node : List ℕ) (at i : ℕ) : Type 0 where
@@ -128,51 +130,49 @@ module _ (q : List ℕ) {node u : List ℕ} (e : length q ≡ length node) (a : 
 pub one_inside : {q node u : List ℕ} {d : Drops} → DroppedBy q node u d → {j : ℕ} → d ≡ One j → j < length node
 one_inside {node = node} s e = subst (λ (x : Drops). in_range x (length node)) e s.is_in_range
 
--- the open nodes beside a node
-abbrev beside : List ℕ → ℕ → List ℕ → List (List ℕ)
-beside work count node = nodes count (length node) work
-
--- the marks after the first k nodes: the others are still to come
-pub record Marked (work : List ℕ) (count : ℕ) (node u : List ℕ) (marks : List Bool) (k : ℕ) : Type 0 where
+-- the marks after the first k open nodes: the others are still to come
+pub record Marked (o : OpenNodes) (node u : List ℕ) (marks : List Bool) (k : ℕ) : Type 0 where
   pub size : length marks ≡ 16
-  pub upto : k ≤ count
+  pub upto : k ≤ o.count
   pub is : (i : ℕ) → i < length node → let c = child node u i in
-      get_or marks i false || dominates_some c (drop k (beside work count node)) ≡ dominates_some c (beside work count node)
+      get_or marks i false || dominates_some c (drop k (open_nodes o)) ≡ dominates_some c (open_nodes o)
 
-module _ {work : List ℕ} {count : ℕ} {node u : List ℕ} (b : Expands work count node u) where
-  pub marked-none : Marked work count node u (replicate 16 false) 0
-  marked-none = record { size = refl; upto = omega arith; is = λ i h. rw (get_or-replicate 16 i false false (omega (arith, b.few))) }
+module _ {o : OpenNodes} {node u : List ℕ} (b : Expands o node u) where
+  few : length node ≤ 16
+  few = omega (arith, b.sized, o.light.few)
 
-  module _ {marks : List Bool} {k : ℕ} (m : Marked work count node u marks k) where
-    pub marked_all : count ≤ k → Dropped work count node u marks
+  pub marked-none : Marked o node u (replicate 16 false) 0
+  marked-none = record { size = refl; upto = omega arith; is = λ i h. rw (get_or-replicate 16 i false false (omega (arith, few))) }
+
+  module _ {marks : List Bool} {k : ℕ} (m : Marked o node u marks k) where
+    pub marked_all : o.count ≤ k → Dropped o node u marks
     marked_all h =
-        let e = drop_of_length-le (beside work count node) {i = k} (omega (arith, length-nodes count (length node) work)) in
+        let e = drop_of_length-le (open_nodes o) {i = k} (omega (arith, listed-long o)) in
         record { marked = λ i t. sym (or-false (get_or marks i false)) ∙ rw e at (m.is i t) }
 
-    module _ (h : k < count) {q : List ℕ} {d : Drops} (eq : q ≡ node_at work (length node) k) (s : DroppedBy q node u d) where
+    module _ (h : k < o.count) {q : List ℕ} {d : Drops} (eq : q ≡ node_of o k) (s : DroppedBy q node u d) where
       seen : (i : ℕ) → i < length node → let c = child node u i in
-          get_or marks i false || (drops d i || dominates_some c (drop (k + 1) (beside work count node)))
-          ≡ dominates_some c (beside work count node)
+          get_or marks i false || (drops d i || dominates_some c (drop (k + 1) (open_nodes o))) ≡ dominates_some c (open_nodes o)
       seen i t =
-          let e = drop-cons (beside work count node) k [] (omega (arith, length-nodes count (length node) work)) in
-          rw (← s.marks i t, eq, ← nodes-at count (length node) work k h, add-one k) (rw e at (m.is i t))
+          let e = drop-cons (open_nodes o) k [] (omega (arith, listed-long o)) in
+          rw (← s.marks i t, eq, ← nodes-at o.count (length (weights_of o)) o.work.now k h, add-one k) (rw e at (m.is i t))
 
-      pub mark-every : d ≡ All → Dropped work count node u (replicate 16 true)
+      pub mark-every : d ≡ All → Dropped o node u (replicate 16 true)
       mark-every e = record {
-        marked = λ i t. get_or-replicate 16 i true false (omega (arith, b.few)) ∙ sym (or-true (get_or marks i false)) ∙ rw e at (seen i t);
+        marked = λ i t. get_or-replicate 16 i true false (omega (arith, few)) ∙ sym (or-true (get_or marks i false)) ∙ rw e at (seen i t);
       }
 
       next : (marks' : List Bool) → length marks' ≡ 16
           → ((i : ℕ) → i < length node → get_or marks' i false ≡ get_or marks i false || drops d i)
-          → Marked work count node u marks' (k + 1)
+          → Marked o node u marks' (k + 1)
       next marks' l f = record { size = l; upto = omega arith; is = λ i t. rw (f i t, or_assoc) (seen i t) }
 
-      pub mark-none : d ≡ Nothing → Marked work count node u marks (k + 1)
+      pub mark-none : d ≡ Nothing → Marked o node u marks (k + 1)
       mark-none e = next marks m.size (λ i t. rw e (sym (or-false (get_or marks i false))))
 
-      pub mark-one : {j : ℕ} → d ≡ One j → Marked work count node u (set marks j true) (k + 1)
+      pub mark-one : {j : ℕ} → d ≡ One j → Marked o node u (set marks j true) (k + 1)
       mark-one {j} e = next (set marks j true) (simp length-set m.size) (λ i t. rw e (elim (bool (eqb i j)) [
         | inl x ↦ rw (x, or-true (get_or marks i false), eqb-true i j x)
-            (get_or-set_same marks j true false (omega (arith, m.size, b.few, one_inside s e)))
+            (get_or-set_same marks j true false (omega (arith, m.size, few, one_inside s e)))
         | inr x ↦ rw (x, or-false (get_or marks i false)) (get_or-set_other marks j i true false (eqb-false i j x))
       ]))

@@ -4,7 +4,7 @@ use mathlib.Core.Bool.{Bool}
 use mathlib.Core.List.{List}
 use Prim.Native.Nat.{ℕ, ◌≤◌}
 use native.Mathlib.Omega.{arith}
-use Rattle.plan.specs.declared.record.Task.{Task}
+use Rattle.plan.specs.declared.tasks.Task.{Task}
 use Rattle.response.specs.Assignments.{assignment_count}
 use Rattle.optimizer.specs.Rule.{Rule, search_from}
 use Rattle.optimizer.specs.Search.{start}

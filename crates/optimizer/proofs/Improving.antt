@@ -1,21 +1,19 @@
--- The incumbent: that it stays schedulable and within the bounds, and how the code replaces it.
-use mathlib.Core.Path.{◌≡◌, sym, ap, ◌∙◌}
+-- The incumbent: that it stays schedulable and within the bounds, and that its cost tells whether it is kept.
+use mathlib.Core.Path.{◌≡◌}
 use mathlib.Core.Bool.{Bool, true, false}
 use mathlib.Core.Logic.{inl, inr}
 use mathlib.Core.List.{List}
 use Prim.Native.Nat.{ℕ}
-use native.Mathlib.Omega.{arith}
-use Rattle.plan.specs.declared.record.Task.{Task}
+use Rattle.std.specs.Prelude.{Option}
+use Rattle.plan.specs.declared.tasks.Task.{Task}
 use Rattle.plan.specs.Tasks.{period_maxs, weights}
-use Rattle.plan.proofs.Tests.{bool, le-or-lt, both}
-use Rattle.response.proofs.Order.{first-gt}
-use Rattle.response.specs.Analysis.{schedulable}
-use Rattle.response.specs.Assignments.{cost, before, by_cost, less}
+use Rattle.plan.proofs.Tests.{bool}
+use Rattle.response.specs.Assignments.{less}
 use Rattle.response.proofs.Bounds.{Within, maxs-within}
 use Rattle.boundary.specs.Lowering.{lowering}
-use Rattle.boundary.specs.Inner.{LowersUpTo}
 use Rattle.boundary.proofs.Lowered.{lowering-meets}
 use Rattle.optimizer.specs.Search.{improved, incumbent_rule}
+use Rattle.optimizer.specs.Answers.{keeps_of}
 use Rattle.optimizer.specs.Inner.{stop_cost}
 use Rattle.optimizer.proofs.Optimal.{Lawful}
 use Rattle.optimizer.proofs.Branching.{Sound, lawful}
@@ -45,33 +43,7 @@ module _ {ts : List Task} {test : List ℕ → Bool} (s : Sound ts test) (top : 
     branches = λ best node c w e. 𝓛.branches tt node tt w e;
   }
 
--- the cost of a kept incumbent
-pub stop-kept : (ts : List Task) (keeps : Bool) (best : List ℕ) → keeps ≡ true → {c : ℕ} → c ≡ stop_cost ts keeps best
-    → c ≡ cost (weights ts) best
-stop-kept ts keeps best k e = rw k at e
-
--- a lowering up to the incumbent's cost b, compared with the incumbent
-module _ (ts : List Task) (best node : List ℕ) {x : List ℕ} {b c : ℕ} (eb : b ≡ cost (weights ts) best)
-    (u : LowersUpTo (weights ts) (lowering (schedulable ts) (period_maxs ts) node) b x c) {t : Bool} (et : t ≡ by_cost c b x best) where
-  abbrev lowered : List ℕ
-  lowered = lowering (schedulable ts) (period_maxs ts) node
-
-  pub improved-taken : t ≡ true → x ≡ improved ts (schedulable ts) best node
-  improved-taken h = elim (le-or-lt c b) [
-    | inl l ↦ let k = u.is l in
-        let e : less (weights ts) lowered best ≡ true = rw (k.1, k.0, eb) at (sym et ∙ h) in rw e k.0
-    | inr l ↦ absurd (both (sym et ∙ h) (first-gt c b _ l))
-  ]
-
-  pub improved-costs : t ≡ true → c ≡ cost (weights ts) x
-  improved-costs h = elim (le-or-lt c b) [
-    | inl l ↦ let k = u.is l in k.1 ∙ ap (cost (weights ts)) (sym k.0)
-    | inr l ↦ absurd (both (sym et ∙ h) (first-gt c b _ l))
-  ]
-
-  pub improved-left : t ≡ false → best ≡ improved ts (schedulable ts) best node
-  improved-left h = elim (le-or-lt c b) [
-    | inl l ↦ let k = u.is l in
-        let e : less (weights ts) lowered best ≡ false = rw (k.1, k.0, eb) at (sym et ∙ h) in rw e
-    | inr l ↦ rw (first-gt (cost (weights ts) lowered) (cost (weights ts) best) (before lowered best) (omega (arith, eb, u.past l)))
-  ]
+-- an incumbent is kept exactly where it has a cost
+pub keeps-told : (ts : List Task) (keeps : Bool) (best : List ℕ) {total : Option ℕ} → total ≡ stop_cost ts keeps best → keeps_of total ≡ keeps
+keeps-told ts true best e = rw e
+keeps-told ts false best e = rw e

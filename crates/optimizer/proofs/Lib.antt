@@ -11,6 +11,8 @@ pub mod Guarantees  -- what the search by a lawful rule comes to
 pub mod Running  -- the search while it runs
 pub mod Settled  -- demand 3
 mod Space  -- nodes in the work space
+mod Ordering  -- assignments of one cost, as the library compares them
+mod Columns  -- the weights of a plan's tasks
 mod Scans  -- cost, order and the least node, one at a time
 mod Drop  -- children that open nodes drop
 mod Branch  -- children listed after the open nodes

@@ -7,8 +7,8 @@ use Prim.Native.Nat.{ℕ}
 use native.Mathlib.Omega.{arith}
 use lib.Dec.{eqb}
 use lib.ListN.{length}
-use borrow.Author.Tests.{eq-eqb, ne_eqb}
-use Rattle.plan.specs.declared.record.Task.{Task}
+use borrow.Author.Tests.{eqb-true, eq-eqb, ne_eqb}
+use Rattle.plan.specs.declared.tasks.Task.{Task}
 use Rattle.plan.specs.declared.faults.Fault.{Fault}
 use Rattle.plan.specs.Faults.{fault, passed}
 use Rattle.plan.specs.Tasks.{AllValid, period_maxs, weights}
@@ -16,7 +16,9 @@ use Rattle.plan.proofs.Tests.{bool, eq-or-ne}
 use Rattle.response.specs.Analysis.{schedulable}
 use Rattle.response.specs.Assignments.{cost}
 use Rattle.response.proofs.Bounds.{true-within}
-use Rattle.optimizer.specs.declared.answer.Answer.{Answer}
+use Rattle.optimizer.specs.declared.conclusion.Answer.{Answer}
+use Rattle.optimizer.specs.declared.errors.CallError.{CallError}
+use Rattle.optimizer.specs.Answers.{call_error_fault, refused_answer}
 use Rattle.optimizer.specs.Rule.{End}
 use Rattle.optimizer.specs.Search.{rule, search, incumbent_rule, incumbent_search, start}
 use Rattle.optimizer.specs.Claims.{Feasible, IsStop, Settles, Improves}
@@ -28,7 +30,7 @@ use Rattle.optimizer.proofs.Branching.{lawful}
 use Rattle.optimizer.proofs.Improving.{incumbent-first, lawful-incumbent}
 use Rattle.optimizer.proofs.Guarantees.{search-carried}
 use Rattle.optimizer.proofs.Settled.{of_two, sound, feasible, tasks-pass, tasks-break, settles-refused, settles-searched}
-use Rattle.optimizer.proofs.Concluding.{searched-number}
+use Rattle.optimizer.proofs.Concluding.{searched-number, error-some, call-file, called-refused}
 
 -- the search with the incumbent and without it
 module _ (ts : List Task) (budget room : ℕ) where
@@ -152,4 +154,24 @@ module _ (f : Fault) (ts : List Task) (v : AllValid ts) (budget : ℕ) (o o' w w
     answers = a;
     settles = λ t. best-settled (rw t at a);
     as_cheapest = rw a.answer (called-course f ts (length o) (length w) _ _ (best-course ts budget room));
+  }
+
+-- a file's own refusal
+module _ (e : CallError) {f : Fault} (q : call_error_fault e ≡ f) (ts : List Task) (budget : ℕ) (o w : List ℕ) where
+  refuses : call_error_fault e ≡ call_fault f ts (length o) (length w)
+  refuses = q ∙ sym (call-file f ts (length o) (length w) (rw q at (error-some e)))
+
+  never : passed (call_fault f ts (length o) (length w)) ≡ true → ⊥
+  never t = error-some e (eqb-true _ 0 (rw (← refuses) at t))
+
+  pub plans-refused : Plans f ts budget o o w w (refused_answer (call_error_fault e))
+  unfolding outcome_of
+  plans-refused = record { answers = called-refused e false f ts _ refuses; settles = λ t. absurd (never t) }
+
+  pub best-plans-refused : BestPlans f ts budget o o w w (refused_answer (call_error_fault e))
+  unfolding outcome_of best_outcome_of
+  best-plans-refused = record {
+    answers = called-refused e true f ts _ refuses;
+    settles = λ t. absurd (never t);
+    as_cheapest = rw (← refuses, ne_eqb _ 0 (error-some e)) (record { fault = refl; rounds = refl; bound = refl });
   }

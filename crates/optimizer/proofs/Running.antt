@@ -6,10 +6,10 @@ use Prim.Native.Nat.{ℕ, suc, ◌-◌, ◌≤◌, ◌<◌}
 use native.Mathlib.Nat.{sub-zero}
 use native.Mathlib.Omega.{arith}
 use lib.ListN.{length}
-use Rattle.plan.specs.declared.record.Task.{Task}
+use Rattle.plan.specs.declared.tasks.Task.{Task}
 use Rattle.response.specs.Assignments.{cost}
 use Rattle.response.proofs.Bounds.{Within}
-use Rattle.optimizer.specs.declared.children.Step.TheVariants.{Answered, Listed, Full}
+use Rattle.optimizer.specs.declared.round.Step.TheVariants.{Answered, Listed, Full}
 use Rattle.optimizer.specs.Rule.{Rule, End, ended, least, next, search_from}
 use Rattle.optimizer.specs.Search.{start}
 use Rattle.optimizer.specs.Inner.{Goes}
@@ -42,8 +42,8 @@ module _ {ts : List Task} {test : List ℕ → Bool} {R : Rule} {Carried : R.Sta
     pub running-spent : budget ≤ rounds → goal ≡ ended 33 [] rounds (cost R.weights (least R ps)) s
     running-spent h = let z : budget - rounds ≡ 0 = omega arith in sym (rw z at g.same) ∙ search-spent R room rounds s ps
 
-    -- a round, and what the work space then holds
-    module _ (h : rounds < budget) (then : ℕ → List (List ℕ)) where
+    -- a round, and the open nodes that there are then
+    module _ (h : rounds < budget) (then : List (List ℕ)) where
       begun : search_from R (suc (budget - suc rounds)) room rounds s ps ≡ goal
       begun = let z : budget - rounds ≡ suc (budget - suc rounds) = omega arith in rw z at g.same
 
@@ -54,15 +54,15 @@ module _ {ts : List Task} {test : List ℕ → Bool} {R : Rule} {Carried : R.Sta
           → goal ≡ ended 34 [] (suc rounds) (cost R.weights (least R ps)) (R.after s (least R ps))
       running-full e = sym begun ∙ search-full R room rounds s ps (budget - suc rounds) e.0 e.1
 
-      pub running-listed : (m : ℕ) → length (then m) ≡ m → Goes R s room ps then (Listed m)
-          → Running ts test R Carried goal budget room (suc rounds) (R.after s (least R ps)) (then m)
-      running-listed m l e =
+      pub running-listed : Goes R s room ps then Listed
+          → Running ts test R Carried goal budget room (suc rounds) (R.after s (least R ps)) then
+      running-listed e =
           let after = R.after s (least R ps) in
-          let few : length (next R s ps) ≤ room = omega (arith, same_length (then m) (next R s ps) e.1.1, e.1.0) in
+          let few : length (next R s ps) ≤ room = omega (arith, same_length then (next R s ps) e.1.1, e.1.0) in
           record {
             lawful = g.lawful;
             carried = carried-next g.lawful s g.carried g.opened e.0;
-            opened = open-same (next R s ps) (then m) e.1.1 (open_next g.lawful s g.carried g.opened e.0);
-            same = search-same R (budget - suc rounds) room (suc rounds) after (then m) (next R s ps) e.1.1
+            opened = open-same (next R s ps) then e.1.1 (open_next g.lawful s g.carried g.opened e.0);
+            same = search-same R (budget - suc rounds) room (suc rounds) after then (next R s ps) e.1.1
                 ∙ sym (search-on R room rounds s ps (budget - suc rounds) e.0 few) ∙ begun;
           }

@@ -1,21 +1,21 @@
--- Cost and order one period at a time, the least node one node at a time.
+-- Cost one period at a time, the least node one node at a time.
 use mathlib.Core.Path.{◌≡◌, refl, sym, ◌∙◌, ap}
-use mathlib.Core.Bool.{Bool, true, false, ◌&&◌, ◌||◌, cond}
+use mathlib.Core.Bool.{Bool, true, false, cond}
 use mathlib.Core.List.{List, [], ◌∷◌}
-use Prim.Native.Nat.{ℕ, suc, ◌+◌, ◌*◌, ◌≤◌, ◌<◌}
-use native.Mathlib.Nat.{mul-le-mul}
+use Prim.Native.Nat.{ℕ, ◌+◌, ◌*◌, ◌≤◌, ◌<◌}
+use native.Mathlib.Nat.{mul-le-mul, mul-le-mul_right}
 use native.Mathlib.Numerals.{add-one}
 use native.Mathlib.Omega.{arith}
-use lib.Dec.{ltb, eqb}
 use lib.ListN.{length, get_or, drop, length-map, drop_of_length-le}
 use lib.Seq.{drop-cons}
-use Rattle.plan.specs.declared.record.Task.{Task}
+use Rattle.plan.specs.declared.tasks.Task.{Task}
 use Rattle.plan.specs.Tasks.{max_tasks, AllValid, weights}
-use Rattle.response.specs.Assignments.{cost, before, by_cost, less}
-use Rattle.response.proofs.Order.{first-lt, first-eq, first-gt}
+use Rattle.response.specs.Assignments.{cost, by_cost, less}
 use Rattle.response.proofs.Ranges.{light}
+use Rattle.optimizer.specs.declared.nodes.Least.{Least}
+use Rattle.optimizer.specs.declared.nodes.OpenNodes.{OpenNodes}
 use Rattle.optimizer.specs.Nodes.{least_from, least_of}
-use Rattle.optimizer.specs.Inner.{node_at, nodes, least_in, Weighed, Removable, Holds, IsLeast}
+use Rattle.optimizer.specs.Inner.{node_at, open_nodes, least_open, Weighed, IsLeast}
 use Rattle.optimizer.proofs.Space.{in-space, length-node, length-nodes, nodes-at}
 
 cost-none : (ws : List ℕ) → cost ws [] ≡ 0
@@ -58,105 +58,72 @@ weighed ts v few e = record {
   light = light ts v;
 }
 
--- the first i periods are the same
-pub record Tied (xs ys : List ℕ) (i : ℕ) : Type 0 where
-  pub upto : i ≤ length xs
-  pub is : before xs ys ≡ before (drop i xs) (drop i ys)
+-- the weights of open nodes, and node k
+abbrev pub weights_of : OpenNodes → List ℕ
+weights_of o = o.weights.items
 
-module _ {xs ys : List ℕ} {i : ℕ} (e : length xs ≡ length ys) (t : Tied xs ys i) where
-  pub tied-all : length xs ≤ i → before xs ys ≡ false
-  tied-all h = t.is ∙ rw (drop_of_length-le xs {i = i} h, drop_of_length-le ys {i = i} (omega arith))
+abbrev pub node_of : OpenNodes → ℕ → List ℕ
+node_of o k = node_at o.work.now (length (weights_of o)) k
 
-  module _ (h : i < length xs) where
-    heads : before xs ys
-        ≡ ltb (get_or xs i 0) (get_or ys i 0) || (eqb (get_or xs i 0) (get_or ys i 0) && before (drop (suc i) xs) (drop (suc i) ys))
-    heads = t.is ∙ rw (drop-cons xs i 0 h, drop-cons ys i 0 (omega arith))
+module _ (o : OpenNodes) where
+  pub listed-long : length (open_nodes o) ≡ o.count
+  listed-long = length-nodes o.count (length (weights_of o)) o.work.now
 
-    pub tied-less : get_or xs i 0 < get_or ys i 0 → before xs ys ≡ true
-    tied-less l = heads ∙ first-lt _ _ _ l
+  pub listed_in : o.count * length (weights_of o) ≤ length o.work.now
+  listed_in = omega (arith, mul-le-mul_right (length (weights_of o)) o.within, o.fits)
 
-    pub tied-more : get_or ys i 0 < get_or xs i 0 → before xs ys ≡ false
-    tied-more l = heads ∙ first-gt _ _ _ l
+  -- a stretch of the room lies in the work space; an open node has as many periods as there are weights, and its cost fits
+  module _ {k : ℕ} where
+    pub stretch_in : k < o.room → k * length (weights_of o) + length (weights_of o) ≤ length o.work.now
+    stretch_in h = in-space (length (weights_of o)) h o.fits
 
-    pub tied-next : get_or xs i 0 ≡ get_or ys i 0 → Tied xs ys (i + 1)
-    tied-next q = record { upto = omega arith; is = rw (add-one i) (heads ∙ first-eq _ _ _ q) }
+    module _ (h : k < o.count) where
+      pub node-sized : length (node_of o k) ≡ length (weights_of o)
+      node-sized = length-node (length (weights_of o)) k o.work.now (stretch_in (omega (arith, o.within)))
 
--- open nodes of as many periods as there are tasks: node k, and the first count
-abbrev node_of : List Task → List ℕ → ℕ → List ℕ
-node_of ts work k = node_at work (length ts) k
+      pub node-few : length (node_of o k) ≤ max_tasks
+      node-few = omega (arith, node-sized, o.light.few)
 
-abbrev nodes_of : List Task → List ℕ → ℕ → List (List ℕ)
-nodes_of ts work count = nodes count (length ts) work
+      pub node-weighed : Weighed (weights_of o) (node_of o k)
+      node-weighed = record { few = node-few; sized = node-sized; light = o.light.light }
 
--- a work space of open nodes, of n periods each
-pub record Counts (ts : List Task) (work : List ℕ) (count n : ℕ) : Type 0 where
-  pub holds : Holds ts work count
-  pub counts : n ≡ length ts
-
--- the best of the first k nodes
-pub record Best (ts : List Task) (work : List ℕ) (count best best-cost k : ℕ) : Type 0 where
-  pub below : best < k
-  pub upto : k ≤ count
-  pub costs : best-cost ≡ cost (weights ts) (node_of ts work best)
-  pub is : least_from (weights ts) (node_of ts work best) (drop k (nodes_of ts work count)) ≡ least_in ts count work
+  -- the best of the first k nodes
+  pub record Best (best : Least) (k : ℕ) : Type 0 where
+    pub below : best.node < k
+    pub upto : k ≤ o.count
+    pub costs : best.cost ≡ cost (weights_of o) (node_of o best.node)
+    pub is : least_from (weights_of o) (node_of o best.node) (drop k (open_nodes o)) ≡ least_open o
 
 first : (ws : List ℕ) (ps : List (List ℕ)) → 1 ≤ length ps → least_from ws (get_or ps 0 []) (drop 1 ps) ≡ least_of ws ps
 unfolding least_of
 first ws [] h = absurd (omega arith)
 first ws (p ∷ ps) h = refl
 
-module _ {ts : List Task} {work : List ℕ} {count n : ℕ} (o : Counts ts work count n) where
-  -- an open node lies in the work space, has as many periods as there are tasks, and its cost fits
-  module _ {k : ℕ} (h : k < count) where
-    pub node_in : k * n + n ≤ length work
-    node_in = rw o.counts (in-space (length ts) h o.holds.fits)
-
-    pub removable : Removable work n count k
-    removable = rw o.counts (record { few = o.holds.few; listed = h; fits = o.holds.fits })
-
-    module _ {p : List ℕ} (ep : p ≡ node_at work n k) where
-      pub node-sized : length p ≡ length ts
-      node-sized = ap length ep ∙ length-node n k work node_in ∙ o.counts
-
-      pub node-few : length p ≤ max_tasks
-      node-few = omega (arith, node-sized, o.holds.few)
-
-      module _ {ws : List ℕ} (ew : ws ≡ weights ts) where
-        pub node-weighed : Weighed ws p
-        node-weighed = rw ew (weighed ts o.holds.valid o.holds.few node-sized)
-
-        pub node-costs : {c : ℕ} → c ≡ cost ws p → c ≡ cost (weights ts) (node_of ts work k)
-        node-costs ec = rw (ew, rw o.counts at ep) at ec
-
-  pub best-first : {c : ℕ} → c ≡ cost (weights ts) (node_of ts work 0) → Best ts work count 0 c 1
-  best-first ec = record {
+module _ {o : OpenNodes} where
+  pub best-first : 1 ≤ o.count → {c : ℕ} → c ≡ cost (weights_of o) (node_of o 0) → Best o (record { node = 0; cost = c }) 1
+  best-first h ec = record {
     below = omega arith;
-    upto = o.holds.some;
+    upto = h;
     costs = ec;
-    is = rw (← nodes-at count (length ts) work 0 o.holds.some)
-        (first (weights ts) (nodes_of ts work count) (omega (arith, length-nodes count (length ts) work, o.holds.some)));
+    is = rw (← nodes-at o.count (length (weights_of o)) o.work.now 0 h) (first (weights_of o) (open_nodes o) (omega (arith, listed-long o)));
   }
 
   -- node k, of the cost c, against the best
-  module _ {best best-cost k : ℕ} (b : Best ts work count best best-cost k) (h : k < count) {p q : List ℕ} {c : ℕ}
-      (ep : p ≡ node_at work n k) (ec : c ≡ cost (weights ts) (node_of ts work k)) (eq : q ≡ node_at work n best)
-      {t : Bool} (e : t ≡ by_cost c best-cost p q) where
-    next : least_from (weights ts) (cond t (node_of ts work k) (node_of ts work best)) (drop (k + 1) (nodes_of ts work count))
-        ≡ least_in ts count work
-    next =
-        let l : t ≡ less (weights ts) (node_of ts work k) (node_of ts work best) =
-        rw (ec, b.costs, rw o.counts at ep, rw o.counts at eq) at e in
-        let d = drop-cons (nodes_of ts work count) k [] (omega (arith, length-nodes count (length ts) work)) in
-        rw (l, add-one k) (rw (d, nodes-at count (length ts) work k h) at b.is)
+  module _ {best : Least} {k : ℕ} (b : Best o best k) where
+    module _ (h : k < o.count) {c : ℕ} (ec : c ≡ cost (weights_of o) (node_of o k)) {t : Bool} (e : t ≡ by_cost c best.cost (node_of o k) (node_of o best.node)) where
+      next : least_from (weights_of o) (cond t (node_of o k) (node_of o best.node)) (drop (k + 1) (open_nodes o)) ≡ least_open o
+      next =
+          let l : t ≡ less (weights_of o) (node_of o k) (node_of o best.node) = rw (ec, b.costs) at e in
+          let d = drop-cons (open_nodes o) k [] (omega (arith, listed-long o)) in
+          rw (l, add-one k) (rw (d, nodes-at o.count (length (weights_of o)) o.work.now k h) at b.is)
 
-    pub better : t ≡ true → Best ts work count k c (k + 1)
-    better y = record { below = omega arith; upto = omega arith; costs = ec; is = rw y at next }
+      pub better : t ≡ true → Best o (record { node = k; cost = c }) (k + 1)
+      better y = record { below = omega arith; upto = omega arith; costs = ec; is = rw y at next }
 
-    pub no-better : t ≡ false → Best ts work count best best-cost (k + 1)
-    no-better y = record { below = omega (arith, b.below); upto = omega arith; costs = b.costs; is = rw y at next }
+      pub no-better : t ≡ false → Best o best (k + 1)
+      no-better y = record { below = omega (arith, b.below); upto = omega arith; costs = b.costs; is = rw y at next }
 
-pub best-all : {ts : List Task} {work : List ℕ} {count best best-cost k : ℕ} → Best ts work count best best-cost k → count ≤ k
-    → IsLeast ts work count (record { node = best; cost = best-cost })
-best-all {ts} {work} {count} {k = k} b h =
-    let e = rw (drop_of_length-le (nodes_of ts work count) {i = k} (omega (arith, length-nodes count (length ts) work))) at b.is in
-    record { open_node = omega (arith, b.below, b.upto); least = e; costs = b.costs ∙ ap (cost (weights ts)) e }
+    pub best-all : o.count ≤ k → IsLeast o best
+    best-all h =
+        let e = rw (drop_of_length-le (open_nodes o) {i = k} (omega (arith, listed-long o))) at b.is in
+        record { open_node = omega (arith, b.below, b.upto); least = e; costs = b.costs ∙ ap (cost (weights_of o)) e }

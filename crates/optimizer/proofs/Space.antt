@@ -8,7 +8,7 @@ use native.Mathlib.Numerals.{add-one}
 use native.Mathlib.Omega.{arith}
 use lib.ListN.{length, get_or, take, drop, set, length-drop, length-set}
 use lib.Seq.{set_at, length-take-le, take-add, drop-drop, take_at, drop_at, set-append_left, get_or-set_same, get_or-set_other}
-use borrow.Rule.Slice.PartMut.{put_mid}
+use Rattle.std.specs.List.{copy_within}
 use Rattle.plan.proofs.Tests.{eq-or-ne}
 use Rattle.optimizer.specs.Nodes.{occurrences, without, SameNodes}
 use Rattle.optimizer.specs.Inner.{node_at, nodes, put}
@@ -25,20 +25,18 @@ in-space n {k} {count} h r = omega (arith, mul-le-mul_right n h, suc-mul k n)
 pub length-node : (n k : ℕ) (work : List ℕ) → k * n + n ≤ length work → length (node_at work n k) ≡ n
 length-node n k work h = length-take-le n (drop (k * n) work) (omega (arith, length-drop (k * n) work))
 
--- a node read into an array
-pub read_is : {p q : List ℕ} (r : List ℕ) → take (length p) r ≡ p → p ≡ q → {n : ℕ} → length q ≡ n → take n r ≡ q
-read_is r e f h = rw (← h, ← f) e
-
 pub nodes-at : (count n : ℕ) (work : List ℕ) (k : ℕ) → k < count → get_or (nodes count n work) k [] ≡ node_at work n k
 nodes-at zero n work k h = absurd (omega arith)
 nodes-at (suc count) n work zero h = rw (zero-mul n)
 nodes-at (suc count) n work (suc k) h =
     rw (suc-mul k n, add_comm (k * n) n, ← drop-drop (k * n) n work) (nodes-at count n (drop n work) k (omega arith))
 
--- a part lent and given back, in the borrow checker's words
-pub put_back : (at : ℕ) (work : List ℕ) {node p : List ℕ} → p ≡ node → put_mid at (at + length node - at) work p ≡ put work at node
-put_back at work {node} e =
-    let k : at + length node - at ≡ length node = omega arith in rw (e, k, drop-drop (length node) at work)
+-- a node copied from one place to another
+pub copied_within : (work : List ℕ) (from at n : ℕ) → from + n ≤ length work → copy_within work from (from + n) at ≡ put work at (take n (drop from work))
+copied_within work from at n h =
+    let s : from + n - from ≡ n = omega arith in
+    let l = length-take-le n (drop from work) (omega (arith, length-drop from work)) in
+    rw (s, append_assoc, l)
 
 put-split : (n m : ℕ) (work node : List ℕ) → put work (n + m) node ≡ take n work ++ put (drop n work) m node
 put-split n m work node = rw (take-add n m work, append_assoc, drop-drop, add_assoc)
@@ -70,9 +68,9 @@ nodes-append count n work node r e =
     ∙ ap (λ l. set l count node) (nodes-suc count n work)
     ∙ set_at (nodes count n work) (node_at work n count) [] node count (length-nodes count n work))
 
-pub first-node : {n : ℕ} (work : List ℕ) {work' node : List ℕ} → length node ≡ n → work' ≡ put work (0 * length node) node
+pub first-node : {n : ℕ} (work : List ℕ) {work' node : List ℕ} → length node ≡ n → work' ≡ put work (0 * n) node
     → take n work' ≡ node
-first-node {n} work {work'} {node} e f = rw (f, zero-mul) (take_at node (drop (0 + length node) work) n e)
+first-node {n} work {work'} {node} e f = rw (f, zero-mul n) (take_at node (drop (0 + length node) work) n e)
 
 -- and one of its periods set
 set-put : (at : ℕ) (work node : List ℕ) (i v : ℕ) → at ≤ length work → i < length node
@@ -125,8 +123,6 @@ nodes-remove (suc count) n work k h r p =
     rw d (last-moved ps (nodes count n v) k p q l (nodes-at (suc count) n work k h) (sym e ∙ t))
 
 pub nodes-removed : (count n : ℕ) (work : List ℕ) (k : ℕ) → k < count → count * n ≤ length work
-    → {q work' : List ℕ} → q ≡ node_at work n (count - 1) → work' ≡ put work (k * length q) q
+    → {q work' : List ℕ} → q ≡ node_at work n (count - 1) → work' ≡ put work (k * n) q
     → SameNodes (nodes (count - 1) n work') (without (node_at work n k) (nodes count n work))
-nodes-removed count n work k h r e f =
-    let l = length-node n (count - 1) work (in-space n (omega arith) r) in
-    rw (f, e, l) (rw l at (nodes-remove count n work k h r))
+nodes-removed count n work k h r e f = rw (f, e) (nodes-remove count n work k h r)

@@ -1,16 +1,13 @@
--- The least node taken off the work space: what the functions of a round ask of it, and how the round goes by CHEAPEST's rule.
-use mathlib.Core.Path.{◌≡◌, refl, sym, ap, ◌∙◌}
+-- The least node taken off the open ones: what the functions of a round ask of it, and how the round goes by CHEAPEST's rule.
+use mathlib.Core.Path.{◌≡◌, sym, ap, ◌∙◌}
 use mathlib.Core.Bool.{true, false}
-use mathlib.Core.Logic.{inl, inr}
 use mathlib.Core.List.{List}
-use Prim.Native.Nat.{ℕ, ◌-◌, ◌≤◌}
-use native.Mathlib.Omega.{arith}
-use lib.Dec.{ltb}
-use lib.ListN.{length, take, length-take}
-use borrow.Author.Tests.{ltb-true, ltb-false}
-use Rattle.plan.specs.declared.record.Task.{Task}
-use Rattle.plan.specs.Tasks.{period_maxs}
-use Rattle.plan.proofs.Tests.{bool}
+use Prim.Native.Nat.{ℕ, ◌≤◌}
+use lib.ListN.{length, length-map}
+use borrow.Author.Tests.{leb-true, leb-false}
+use Rattle.std.specs.Prelude.{Bool}
+use Rattle.plan.specs.declared.tasks.Task.{Task}
+use Rattle.plan.specs.Tasks.{max_tasks, AllValid, period_maxs, weights}
 use Rattle.response.specs.Analysis.{schedulable}
 use Rattle.response.specs.Inner.{Limits}
 use Rattle.response.proofs.Bounds.{Within, within-true}
@@ -19,100 +16,87 @@ use Rattle.boundary.specs.declared.node.Node.{Node}
 use Rattle.boundary.specs.Mua.{mua}
 use Rattle.boundary.specs.Raising.{Unschedulable}
 use Rattle.boundary.proofs.Maximal.{mua-fails}
-use Rattle.optimizer.specs.declared.nodes.Least.{Least}
-use Rattle.optimizer.specs.declared.children.Step.{Step}
-use Rattle.optimizer.specs.declared.children.Step.TheVariants.{Answered}
-use Rattle.optimizer.specs.Nodes.{without, occurrences, SameNodes}
+use Rattle.optimizer.specs.declared.nodes.OpenNodes.{OpenNodes}
+use Rattle.optimizer.specs.declared.round.Step.{Step}
+use Rattle.optimizer.specs.declared.round.Step.TheVariants.{Answered, Listed, Full}
+use Rattle.optimizer.specs.Nodes.{least_of, without, occurrences, SameNodes}
 use Rattle.optimizer.specs.Rule.{next}
 use Rattle.optimizer.specs.Search.{children, rule}
-use Rattle.optimizer.specs.Inner.{node_at, nodes, least_in, IsLeast, Taken, Above, HasRoom, expanded, Lists, Goes, Rounds, Ready}
+use Rattle.optimizer.specs.Inner.{open_nodes, SameSpace, Taken, Expands, expanded, Lists, Goes, Rounds, Ready}
 use Rattle.optimizer.proofs.Multiset.{same_length, same-expanded}
-use Rattle.optimizer.proofs.Space.{read_is}
-use Rattle.optimizer.proofs.Scans.{Counts, node-sized}
 
--- the least node, read and then removed
-pub takes : {ts : List Task} {work : List ℕ} {count n : ℕ} {k : Least} → Counts ts work count n → IsLeast ts work count k
-    → {p v r : List ℕ} → p ≡ node_at work n k.node → take (length p) r ≡ p
-    → SameNodes (nodes (count - 1) n v) (without (node_at work n k.node) (nodes count n work))
-    → Taken ts count work v (record { cost = k.cost; periods = r })
-takes o l {r = r} ep er s =
-    let sized = node-sized o l.open_node ep in
-    let is = rw o.counts at ep ∙ l.least in
-    record {
-      least = read_is r er refl sized ∙ is;
-      costs = l.costs;
-      rest = rw (← l.least) (rw o.counts at s);
-    }
+-- a round of tasks in which the least of the open nodes was taken: x, which leaves the others
+pub record Took (ts : List Task) (old others : OpenNodes) (x : Node) : Type 0 where
+  pub valid : AllValid ts
+  pub few : length ts ≤ max_tasks
+  pub ready : Ready ts old
+  pub space : SameSpace old others
+  pub taken : Taken old others x
 
--- a round in which the least node was taken: x, of n periods
-pub record Took (ts : List Task) (work : List ℕ) (count room : ℕ) (v : List ℕ) (x : Node) (n : ℕ) : Type 0 where
-  pub ready : Ready ts work count room
-  pub taken : Taken ts count work v x
-  pub counts : n ≡ length ts
-
-module _ {ts : List Task} {work : List ℕ} {count room : ℕ} {v : List ℕ} {x : Node} {n : ℕ} (k : Took ts work count room v x n) where
+module _ {ts : List Task} {old others : OpenNodes} {x : Node} (k : Took ts old others x) where
   abbrev listed : List (List ℕ)
-  listed = nodes count (length ts) work
+  listed = open_nodes old
 
   abbrev p : List ℕ
-  p = x.periods
+  p = x.periods.items
 
-  node-least : take n p ≡ least_in ts count work
-  node-least = rw k.counts k.taken.least
+  node-within : Within ts p
+  node-within = within-true ts p (rw k.taken.least k.ready.bounded)
 
-  node-within : Within ts (take n p)
-  node-within = within-true ts (take n p) (rw node-least k.ready.bounded)
+  pub node-limits : Limits ts p
+  node-limits = limits-within ts k.valid node-within k.few
 
-  pub node-long : n ≡ length (take n p)
-  node-long = k.counts ∙ sym node-within.sized
+  round_is : {new : OpenNodes} {step : Step} → Goes (rule ts (schedulable ts)) tt old.room listed (open_nodes new) step
+      → Rounds (rule ts (schedulable ts)) tt old new (record { step = step; node = x })
+  round_is g = record {
+    node = rw (← k.ready.weights) k.taken.least;
+    costs = rw (← k.ready.weights) k.taken.costs;
+    goes = g;
+  }
 
-  pub node-fits : n ≤ length p
-  node-fits = omega (arith, node-long, length-take n p)
+  least_is : p ≡ least_of (weights ts) listed
+  least_is = rw (← k.ready.weights) k.taken.least
 
-  pub node-limits : Limits ts (take n p)
-  node-limits = limits-within ts k.ready.holds.valid node-within k.ready.holds.few
+  pub round-answered : schedulable ts p ≡ true → Rounds (rule ts (schedulable ts)) tt old others (record { step = Answered; node = x })
+  round-answered e = round_is (rw (← least_is) e)
 
-  round_is : {w : List ℕ} {step : Step} → Goes (rule ts (schedulable ts)) tt room listed (λ m. nodes m (length ts) w) step
-      → Rounds (rule ts (schedulable ts)) tt (length ts) count room work w (record { step = step; node = x })
-  round_is g = record { node = k.taken.least; costs = k.taken.costs; goes = g }
-
-  pub round-answered : schedulable ts (take n p) ≡ true → {w : List ℕ}
-      → Rounds (rule ts (schedulable ts)) tt (length ts) count room work w (record { step = Answered; node = x })
-  round-answered e = round_is (rw (← node-least) e)
-
-  module _ (e : schedulable ts (take n p) ≡ false) where
+  module _ (e : schedulable ts p ≡ false) where
     abbrev u : List ℕ
-    u = mua (schedulable ts) (period_maxs ts) (take n p)
+    u = mua (schedulable ts) (period_maxs ts) p
 
-    pub node-fails : Unschedulable ts (take n p)
+    pub node-fails : Unschedulable ts p
     node-fails = record { limits = node-limits; high = node-within.high; fails = e }
 
-    pub node-room : length v ≡ length work → HasRoom v (count - 1) room (take n p)
-    node-room l = record { within = omega (arith, k.ready.within); fits = rw node-within.sized (omega (arith, k.ready.fits)) }
-
-    pub node-above : Above (take n p) u
-    node-above =
-        let f = mua-fails (schedulable ts) node-within e in
-        record { sized = f.within.sized ∙ sym node-within.sized; above = f.above }
+    pub node-expands : Expands others p u × (length p ≡ length ts)
+    node-expands =
+        let f = mua-fails (schedulable ts) node-within e in (
+          record {
+            sized = rw (k.space.weights, k.ready.weights) (node-within.sized ∙ sym (length-map ts (λ t. t.weight)));
+            above = record { sized = f.within.sized ∙ sym node-within.sized; above = f.above };
+          },
+          node-within.sized,
+        )
 
     -- the open nodes beside it, with its children that are kept, are those that come next by the rule
-    same_next : SameNodes (expanded (period_maxs ts) (take n p) u (count - 1) v) (next (rule ts (schedulable ts)) tt listed)
+    same_next : SameNodes (expanded (period_maxs ts) p u (open_nodes others)) (next (rule ts (schedulable ts)) tt listed)
     unfolding children
     same_next =
-        rw (← node-least)
-        (same-expanded (children (schedulable ts) (period_maxs ts) (take n p)) (nodes (count - 1) (length (take n p)) v)
-        (without (take n p) listed) (rw (node-within.sized, node-least) k.taken.rest))
+        rw (← least_is)
+        (same-expanded (children (schedulable ts) (period_maxs ts) p) (open_nodes others) (without p listed)
+        (rw (← k.taken.least) at k.taken.rest))
 
-    module _ {w : List ℕ} {step : Step} (y : Lists (period_maxs ts) (take n p) u (count - 1) room v w step) where
-      goes : Goes (rule ts (schedulable ts)) tt room listed (λ m. nodes m (length ts) w) step
-      goes =
-          let ps = expanded (period_maxs ts) (take n p) u (count - 1) v in
-          let fails = rw node-least at e in
-          elim (bool (ltb room (length ps))) [
-            | inl b ↦ rw (y.step, b) (fails, rw (← same_length ps _ same_next) (ltb-true room (length ps) b))
-            | inr b ↦ let now = ap (λ m. nodes (length ps) m w) (sym node-within.sized) ∙ y.listed b in
-                rw (y.step, b) (fails, (ltb-false room (length ps) b, λ q. ap (occurrences q) now ∙ same_next q))
-          ]
+    module _ {new : OpenNodes} {room : Bool} (y : Lists (period_maxs ts) p u others new room) where
+      goes-listed : room ≡ true → Goes (rule ts (schedulable ts)) tt old.room listed (open_nodes new) Listed
+      goes-listed b =
+          let now = y.listed b in
+          let fits = leb-true _ _ (sym y.room ∙ b) in
+          (rw least_is at e, (rw (now, ← k.space.room) fits, λ q. ap (occurrences q) now ∙ same_next q))
 
-      pub round-branched : Rounds (rule ts (schedulable ts)) tt (length ts) count room work w (record { step = step; node = x })
-      round-branched = round_is goes
+      goes-full : room ≡ false → Goes (rule ts (schedulable ts)) tt old.room listed (open_nodes new) Full
+      goes-full b = (rw least_is at e, rw (← same_length _ _ same_next, ← k.space.room) (leb-false _ _ (sym y.room ∙ b)))
+
+      pub round-listed : room ≡ true → Rounds (rule ts (schedulable ts)) tt old new (record { step = Listed; node = x })
+      round-listed b = round_is (goes-listed b)
+
+      pub round-full : room ≡ false → Rounds (rule ts (schedulable ts)) tt old new (record { step = Full; node = x })
+      round-full b = round_is (goes-full b)

@@ -1,12 +1,12 @@
 -- Demand 3, over the time test and not over the search: of the answer that a call returns and the periods that it
 -- writes.
 use Rattle.std.specs.Prelude.{◌≡◌, true, ◌⊎◌, List, ℕ, ◌≤◌, ◌<◌, length}
-use Rattle.plan.specs.declared.record.Task.{Task}
+use Rattle.plan.specs.declared.tasks.Task.{Task}
 use Rattle.plan.specs.Tasks.{weights}
 use Rattle.response.specs.Analysis.{deadline_at}
 use Rattle.response.specs.Assignments.{cost, less, within_bounds, assignment_count}
 use Rattle.response.specs.Claims.{Covers}
-use Rattle.optimizer.specs.declared.answer.Answer.{Answer}
+use Rattle.optimizer.specs.declared.conclusion.Answer.{Answer}
 
 -- an on-time timetable within the bounds: for every task some t from 1 to its deadline covers its demand
 pub record Feasible (ts : List Task) (xs : List ℕ) : Type 0 where

@@ -2,6 +2,8 @@
 pub mod Nodes
 pub mod Rule
 pub mod Search
+pub mod Answers
 pub mod Claims
 pub mod Promises
+pub mod Space
 pub mod Inner

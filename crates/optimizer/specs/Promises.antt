@@ -1,14 +1,14 @@
 -- What CHEAPEST and BEST promise, of any bytes, budget and spaces.
 use Rattle.std.specs.Prelude.{◌≡◌, Bool, true, not, ◌||◌, cond, List, [], ◌∷◌, ℕ, suc, ◌/◌, eqb, ltb, leb, length, replicate}
 use Rattle.plan.specs.declared.faults.Fault.{Fault}
-use Rattle.plan.specs.declared.record.Task.{Task}
+use Rattle.plan.specs.declared.tasks.Task.{Task}
 use Rattle.plan.specs.Faults.{fault, fault_if, passed, or_else, first_fault, first_from}
 use Rattle.plan.specs.Tasks.{task_at, period_maxs, weights}
 use Rattle.plan.specs.Files.{file_fault, tasks_of}
 use Rattle.response.specs.Analysis.{own_demand, deadline, schedulable, response_times, first_missed}
 use Rattle.response.specs.Assignments.{cost}
 use Rattle.response.specs.Promises.{space_fault}
-use Rattle.optimizer.specs.declared.answer.Answer.{Answer}
+use Rattle.optimizer.specs.declared.conclusion.Answer.{Answer}
 use Rattle.optimizer.specs.Rule.{End}
 use Rattle.optimizer.specs.Search.{search, incumbent_search}
 use Rattle.optimizer.specs.Claims.{Settles, Improves}

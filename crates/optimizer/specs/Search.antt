@@ -1,6 +1,6 @@
 -- CHEAPEST's rule: the children of a node, and the search; BEST's, which carries an incumbent along.
 use Rattle.std.specs.Prelude.{Bool, true, false, cond, List, [], ◌∷◌, ℕ, zero, suc, ltb, length, get_or, set}
-use Rattle.plan.specs.declared.record.Task.{Task}
+use Rattle.plan.specs.declared.tasks.Task.{Task}
 use Rattle.plan.specs.Tasks.{period_mins, period_maxs, weights}
 use Rattle.response.specs.Analysis.{schedulable}
 use Rattle.response.specs.Assignments.{less}

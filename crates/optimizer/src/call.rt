@@ -1,113 +1,95 @@
-ghost use Rattle.std.specs.Prelude.{◌≡◌, ◌≤◌, ◌<◌, length};
-ghost use Rattle.plan.specs.Faults.{first_from};
-ghost use Rattle.plan.specs.Tasks.{max_tasks, task_at, AllValid, weights};
-ghost use Rattle.plan.specs.Table.{tasks_in};
-ghost use Rattle.plan.specs.Promises.{plan_tasks, Usable};
+ghost use Rattle.std.specs.Prelude.{◌≡◌, length, IfOk};
+ghost use Rattle.plan.specs.Faults.{none, first_from};
+ghost use Rattle.plan.specs.Tasks.{Valid, weights};
+ghost use Rattle.plan.specs.Promises.{plan_tasks};
+ghost use Rattle.optimizer.specs.Answers.{answer_of, call_error, Keeps};
 ghost use Rattle.optimizer.specs.Search.{incumbent_search};
 ghost use Rattle.optimizer.specs.Inner.{Concludes, ended_by, Leaves};
-ghost use Rattle.optimizer.specs.Promises.{infeasible_alone, alone_fault, room_of, concluded, called};
+ghost use Rattle.optimizer.specs.Promises.{infeasible_alone, alone_fault, infeasible_fault, room_of, concluded, called};
 
-use super::answer::Answer;
-use super::nodes::clear;
+use super::conclusion::Conclusion;
+use super::errors::CallError;
 use super::search::search;
-use plan::{Fault, Loaded, Plan};
-use response::{deadline_at, first_unschedulable, own_demand};
+use plan::{Plan, Task};
+use response::{Assignment, deadline, own_demand};
 
 // Whether a task's own demand exceeds its deadline at its longest period.
-fn infeasible_alone(tasks: &[u32], i: usize) -> bool
-    requires { AllValid (tasks_in tasks.now) × (i < length (tasks_in tasks.now)) }
-    ensures { result ≡ infeasible_alone (task_at (tasks_in tasks.now) i) }
+fn infeasible_alone(task: &Task) -> bool
+    requires { Valid task.now }
+    ensures { result ≡ infeasible_alone task.now }
 {
-    deadline_at(tasks, i, plan::period_max(tasks, i)) < own_demand(tasks, i)
+    deadline(task, task.period_max) < own_demand(task)
 }
 
 // Rule 31: the first such task.
-fn alone_fault(tasks: &[u32]) -> Fault
-    requires { AllValid (tasks_in tasks.now) × (length (tasks_in tasks.now) ≤ max_tasks) }
-    ensures { let ts = tasks_in tasks.now in result ≡ first_from (alone_fault ts) (length ts) 0 }
+fn check_alone(plan: &Plan) -> Result<(), CallError>
+    ensures { let ts = plan_tasks plan.now in call_error result ≡ first_from (alone_fault ts) (length ts) 0 }
 {
-    let n = plan::task_count(tasks);
-    let mut i: usize = 0;
-    while i < n {
-        if infeasible_alone(tasks, i) {
-            return Fault {
-                number: 31,
-                place: (i + 1) as u32,
-            };
-        }
-        i += 1;
+    match plan.tasks.iter().position(infeasible_alone) {
+        Some(i) => Err(CallError::InfeasibleAlone((i + 1) as u32)),
+        None => Ok(()),
     }
-    Fault::none()
 }
 
-// What stands for a task where there is none: tasks are counted from 1.
-const NO_TASK: u32 = 0;
+// Rules 31 and 32.
+fn check_feasible(plan: &Plan) -> Result<(), CallError>
+    ensures { call_error result ≡ infeasible_fault (plan_tasks plan.now) }
+{
+    check_alone(plan)?;
+    let longest = plan.column(|task| task.period_max);
+    let assignment = Assignment {
+        plan,
+        periods: &longest,
+    };
+    match assignment.first_unschedulable() {
+        Some(i) => Err(CallError::Infeasible((i + 1) as u32)),
+        None => Ok(()),
+    }
+}
 
-// Rules 31 and 32, then the search, of which the work space keeps no trace.
+// Rules 31 and 32, then the search, of which the work space keeps no trace. The budget and the two spaces stay
+// parameters: a struct of them would be lent as a whole, and each clause would name them by its fields.
 fn conclude(
-    tasks: &[u32],
+    plan: &Plan,
     budget: u64,
     keeps: bool,
     periods: &mut [u32],
     work: &mut [u32],
-) -> Answer
-    requires { Concludes (tasks_in tasks.now) periods.old work.old }
-    ensures { let ts = tasks_in tasks.now in
+) -> Result<Conclusion, CallError>
+    requires { Concludes (plan_tasks plan.now) periods.old work.old }
+    ensures leaves { let ts = plan_tasks plan.now in
         let e = incumbent_search ts budget (room_of ts (length work.old)) in
         Leaves keeps (concluded ts (ended_by keeps (weights ts) e))
-        periods.old periods.new work.old work.new result }
+        periods.old periods.new work.old work.new (answer_of result) }
+    ensures keeps { IfOk result (λ c. Keeps keeps c) }
 {
-    let alone = alone_fault(tasks);
-    if alone.number != 0 {
-        return Answer::refused(alone);
-    }
-    let n = periods.len();
-    let longest = plan::column(tasks, Plan::PERIOD_MAX);
-    let missed = first_unschedulable(tasks, &longest[..n]);
-    if NO_TASK < missed {
-        return Answer::refused(Fault {
-            number: 32,
-            place: missed,
-        });
-    }
-    let answer = search(tasks, budget, keeps, periods, work);
-    clear(work);
-    answer
+    check_feasible(plan)?;
+    let conclusion = search(plan, budget, keeps, periods, work);
+    work.fill(0);
+    Ok(conclusion)
 }
 
 // The call of a plan that was loaded, by CHEAPEST or, with an incumbent, by BEST: the rules of its spaces, then its
 // tasks.
 pub fn run_call(
-    loaded: Loaded,
+    plan: &Plan,
     budget: u64,
     keeps: bool,
     periods: &mut [u32],
     work: &mut [u32],
-) -> Answer
-    requires { Usable loaded }
-    ensures { let ts = plan_tasks loaded.plan in let o = periods.old in
+) -> Result<Conclusion, CallError>
+    ensures leaves { let ts = plan_tasks plan.now in let o = periods.old in
         let w = work.old in let e = incumbent_search ts budget (room_of ts (length w)) in
-        Leaves keeps (called loaded.fault ts (length o) (length w) (ended_by keeps (weights ts) e))
-        o periods.new w work.new result }
+        Leaves keeps (called none ts (length o) (length w) (ended_by keeps (weights ts) e))
+        o periods.new w work.new (answer_of result) }
+    ensures keeps { IfOk result (λ c. Keeps keeps c) }
 {
-    let fault = loaded.fault;
-    if fault.number != 0 {
-        return Answer::refused(fault);
-    }
-    let n = loaded.plan.tasks;
+    let n = plan.tasks.len();
     if periods.len() != n {
-        return Answer::refused(Fault {
-            number: 22,
-            place: 0,
-        });
+        return Err(CallError::PeriodsLength);
     }
     if work.len() < n {
-        return Answer::refused(Fault {
-            number: 24,
-            place: 0,
-        });
+        return Err(CallError::WorkLength);
     }
-    let table = loaded.plan.table;
-    let size = Plan::ROW_FIELDS * n;
-    conclude(&table[..size], budget, keeps, periods, work)
+    conclude(plan, budget, keeps, periods, work)
 }

@@ -1,25 +1,42 @@
+ghost use Rattle.std.specs.Prelude.{false, IfOk};
+ghost use Rattle.plan.specs.Faults.{none};
 ghost use Rattle.plan.specs.Files.{file_fault, tasks_of};
-ghost use Rattle.plan.specs.Promises.{plan_tasks, Usable};
+ghost use Rattle.plan.specs.Promises.{plan_tasks};
+ghost use Rattle.optimizer.specs.Answers.{answer_of, Keeps};
 ghost use Rattle.optimizer.specs.Promises.{Plans};
 
-use super::answer::Answer;
 use super::call::run_call;
-use plan::Loaded;
+use super::conclusion::Conclusion;
+use super::errors::CallError;
+use plan::Plan;
 
-// CHEAPEST of a plan that was loaded.
-pub fn cheapest_of(loaded: Loaded, budget: u64, periods: &mut [u32], work: &mut [u32]) -> Answer
-    requires { Usable loaded }
-    ensures { Plans loaded.fault (plan_tasks loaded.plan) budget
-        periods.old periods.new work.old work.new result }
+// CHEAPEST of a plan that was loaded. It and BEST stay two functions of a line over `run_call`, since they carry two
+// promises: a generic one would be told apart by a type and have both all the same.
+pub fn cheapest_of(
+    plan: &Plan,
+    budget: u64,
+    periods: &mut [u32],
+    work: &mut [u32],
+) -> Result<Conclusion, CallError>
+    ensures plans { Plans none (plan_tasks plan.now) budget
+        periods.old periods.new work.old work.new (answer_of result) }
+    ensures no_incumbent { IfOk result (λ c. Keeps false c) }
 {
-    run_call(loaded, budget, false, periods, work)
+    run_call(plan, budget, false, periods, work)
 }
 
 // CHEAPEST: the cheapest schedulable periods within the bounds, written where there are any; the work space is left
 // cleared.
-pub fn cheapest_periods(file: &[u8], budget: u64, periods: &mut [u32], work: &mut [u32]) -> Answer
-    ensures { Plans (file_fault file.now) (tasks_of file.now) budget
-        periods.old periods.new work.old work.new result }
+pub fn cheapest_periods(
+    file: &[u8],
+    budget: u64,
+    periods: &mut [u32],
+    work: &mut [u32],
+) -> Result<Conclusion, CallError>
+    ensures plans { Plans (file_fault file.now) (tasks_of file.now) budget
+        periods.old periods.new work.old work.new (answer_of result) }
+    ensures no_incumbent { IfOk result (λ c. Keeps false c) }
 {
-    cheapest_of(plan::load_plan(file), budget, periods, work)
+    let plan = plan::load_plan(file)?;
+    cheapest_of(&plan, budget, periods, work)
 }

@@ -1,7 +1,8 @@
 #![tactic(auto)]
 
 // CHEAPEST and BEST: the step rule over a lent work space.
-mod answer; // answer.rt: the operations' answer
+mod errors; // errors.rt: why a call is refused
+mod conclusion; // conclusion.rt: how a search ends, and in numbers
 mod order; // order.rt: cost and order of period assignments
 mod nodes; // nodes.rt: open nodes in the lent work space
 mod incumbent; // incumbent.rt: the best of the nodes' lowerings so far
@@ -13,10 +14,14 @@ mod cheapest; // cheapest.rt: CHEAPEST
 mod best; // best.rt: BEST
 
 // CHEAPEST and BEST
-pub use answer::Answer;
 pub use best::best_periods;
 pub use cheapest::cheapest_periods;
+pub use conclusion::{Answer, Conclusion, Stop};
+pub use errors::CallError;
 
 // for the layers above
 pub use best::best_of;
 pub use cheapest::cheapest_of;
+
+// The numbers of the work space that DESK, the listing and their like give to a call.
+pub const WORK: usize = 16_000;

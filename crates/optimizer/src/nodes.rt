@@ -1,120 +1,152 @@
-ghost use Rattle.std.specs.Prelude.{◌≡◌, ◌+◌, ◌-◌, ◌*◌, ◌≤◌, length, replicate};
-ghost use Rattle.plan.specs.Tasks.{weights};
-ghost use Rattle.plan.specs.Table.{tasks_in};
-ghost use Rattle.response.specs.Assignments.{cost};
-ghost use Rattle.optimizer.specs.Nodes.{without, SameNodes};
-ghost use Rattle.optimizer.specs.Inner.{node_at, nodes, put, least_in, Removable, Holds, IsLeast, Taken};
+ghost use Rattle.std.specs.Prelude.{◌≤◌, ◌*◌, length};
+ghost use Rattle.optimizer.specs.Space.{Light};
 
-use super::order;
-use boundary::{Node, read_node};
-use plan::Plan;
+use super::order::{cost_of, is_less};
+use boundary::{Node, copied};
+use plan::{PerTask, Plan};
 
-// The periods of node k, in their stretch.
-pub fn node_at<'a>(work: &'a [u32], n: usize, k: usize) -> &'a [u32]
-    requires { k * n + n ≤ length work.now }
-    ensures { result.now ≡ node_at work.now n k }
-{
-    let at = k * n;
-    let end = at + n;
-    &work[at..end]
-}
-
-// The node writer: a node into its stretch.
-pub fn write_node(stretch: &mut [u32], node: &[u32])
-    requires { length node.now ≡ length stretch.old }
-    ensures { stretch.new ≡ node.now }
-{
-    let mut i = 0;
-    while i < node.len() {
-        stretch[i] = node[i];
-        i += 1;
-    }
-}
-
-// A node becomes node k.
-pub fn place(work: &mut [u32], k: usize, node: &[u32])
-    requires { k * length node.now + length node.now ≤ length work.old }
-    ensures { let p = node.now in
-        work.new ≡ put work.old (k * length p) p }
-{
-    let at = k * node.len();
-    let end = at + node.len();
-    write_node(&mut work[at..end], node);
-}
-
-// Takes node k off: the last one moves into its stretch.
-pub fn remove(work: &mut [u32], n: usize, count: usize, k: usize)
-    requires { Removable work.old n count k }
-    ensures { let w = work.old in
-        SameNodes (nodes (count - 1) n work.new) (without (node_at w n k) (nodes count n w)) }
-{
-    let last = read_node(node_at(work, n, count - 1));
-    place(work, k, &last[..n]);
-}
-
-// Every number becomes zero.
-pub fn clear(work: &mut [u32])
-    ensures { work.new ≡ replicate (length work.old) 0 }
-{
-    let mut i = 0;
-    while i < work.len() {
-        work[i] = 0;
-        i += 1;
-    }
+// The open nodes of a search: so many assignments, each in its own stretch of the work space, which has room for more;
+// and the weights of their costs, copied out once, since they are read for every open node in every round.
+#[derive(Drop)]
+pub struct OpenNodes<'w> {
+    pub work: &'w mut [u32],
+    pub weights: PerTask,
+    pub room: usize,
+    pub count: usize,
+    ghost light: { Light weights.items },
+    ghost fits: { room * length weights.items ≤ length work.now },
+    ghost within: { count ≤ room },
 }
 
 // The least of the open nodes, and its cost.
-#[derive(Drop)]
+#[derive(Clone, Copy, Debug, PartialEq, Eq)]
 pub struct Least {
     pub node: usize,
     pub cost: u64,
 }
 
-// The weights are copied out once: the loop reads them for every open node.
-pub fn find_least(work: &[u32], tasks: &[u32], count: usize) -> Least
-    requires { Holds (tasks_in tasks.now) work.now count }
-    ensures { IsLeast (tasks_in tasks.now) work.now count result }
-{
-    let n = plan::task_count(tasks);
-    let weights = plan::column(tasks, Plan::WEIGHT);
-    let mut best = 0;
-    let mut best_cost = order::cost_of(&weights[..n], node_at(work, n, 0));
-    let mut k = 1;
-    while k < count {
-        let node = node_at(work, n, k);
-        let cost = order::cost_of(&weights[..n], node);
-        if order::is_less(cost, best_cost, node, node_at(work, n, best)) {
-            best = k;
-            best_cost = cost;
+impl<'w> OpenNodes<'w> {
+    ghost use Rattle.std.specs.Prelude.{◌≡◌, [], ◌∷◌, ◌++◌, ◌+◌, ◌-◌, ◌<◌, set};
+    ghost use Rattle.plan.specs.Tasks.{period_mins, weights};
+    ghost use Rattle.plan.specs.Promises.{plan_tasks};
+    ghost use Rattle.response.specs.Assignments.{cost};
+    ghost use Rattle.optimizer.specs.Nodes.{without, SameNodes};
+    ghost use Rattle.optimizer.specs.Promises.{room_of};
+    ghost use Rattle.optimizer.specs.Inner.{node_at, put, open_nodes, least_open, SameSpace, Starts, IsLeast, Taken};
+
+    // The shortest periods alone.
+    pub fn start(plan: &Plan, work: &'w mut [u32]) -> OpenNodes<'w>
+        requires { length (plan_tasks plan.now) ≤ length work.old }
+        ensures same_reference { result.work.ghost_name ≡ work.entry.ghost_name }
+        ensures starts { Starts (plan_tasks plan.now) (length work.old) result }
+    {
+        let weights = plan.column(|task| task.weight);
+        let room = work.len() / weights.len();
+        let mut open = OpenNodes {
+            work,
+            weights,
+            room,
+            count: 1,
+        };
+        open.place(0, &plan.column(|task| task.period_min));
+        open
+    }
+
+    // The periods of node k, in their stretch.
+    pub fn node(&self, k: usize) -> &[u32]
+        requires { k < self.now.count }
+        ensures { result.now ≡ node_at self.now.work.now (length self.now.weights.items) k }
+    {
+        let n = self.weights.len();
+        &self.work[k * n..k * n + n]
+    }
+
+    // Periods become node k.
+    fn place(&mut self, k: usize, node: &[u32])
+        requires { (k < self.old.room) × (length node.now ≡ length self.old.weights.items) }
+        ensures same { SameSpace self.old self.new }
+        ensures count { self.new.count ≡ self.old.count }
+        ensures placed { let n = length self.old.weights.items in
+            self.new.work.now ≡ put self.old.work.now (k * n) node.now }
+    {
+        let n = self.weights.len();
+        self.work[k * n..k * n + n].copy_from_slice(node);
+    }
+
+    // Takes node k off: the last one moves into its stretch.
+    fn remove(&mut self, k: usize)
+        requires { k < self.old.count }
+        ensures same { SameSpace self.old self.new }
+        ensures count { self.new.count ≡ self.old.count - 1 }
+        ensures removed { let n = length self.old.weights.items in
+            SameNodes (open_nodes self.new) (without (node_at self.old.work.now n k) (open_nodes self.old)) }
+    {
+        let n = self.weights.len();
+        self.count -= 1;
+        let last = self.count * n;
+        self.work.copy_within(last..last + n, k * n);
+    }
+
+    // The cost of node k.
+    fn cost(&self, k: usize) -> u64
+        requires { k < self.now.count }
+        ensures { let n = length self.now.weights.items in
+            result ≡ cost self.now.weights.items (node_at self.now.work.now n k) }
+    {
+        cost_of(&self.weights, self.node(k))
+    }
+
+    fn least(&self) -> Least
+        requires { 1 ≤ self.now.count }
+        ensures { IsLeast self.now result }
+    {
+        let mut least = Least {
+            node: 0,
+            cost: self.cost(0),
+        };
+        for node in 1..self.count {
+            let cost = self.cost(node);
+            if is_less(cost, least.cost, self.node(node), self.node(least.node)) {
+                least = Least { node, cost };
+            }
         }
-        k += 1;
+        least
     }
-    Least {
-        node: best,
-        cost: best_cost,
-    }
-}
 
-// Takes the least node off.
-pub fn take_least(work: &mut [u32], tasks: &[u32], count: usize) -> Node
-    requires { Holds (tasks_in tasks.now) work.old count }
-    ensures { Taken (tasks_in tasks.now) count work.old work.new result }
-{
-    let n = plan::task_count(tasks);
-    let least = find_least(work, tasks, count);
-    let periods = read_node(node_at(work, n, least.node));
-    remove(work, n, count, least.node);
-    Node {
-        cost: least.cost,
-        periods,
+    // Takes the least node off.
+    pub fn take_least(&mut self) -> Node
+        requires { 1 ≤ self.old.count }
+        ensures same { SameSpace self.old self.new }
+        ensures taken { Taken self.old self.new result }
+    {
+        let least = self.least();
+        let periods = copied(self.node(least.node));
+        self.remove(least.node);
+        Node {
+            cost: least.cost,
+            periods,
+        }
     }
-}
 
-// The cost of the least open node.
-pub fn bound_of(work: &[u32], tasks: &[u32], count: usize) -> u64
-    requires { Holds (tasks_in tasks.now) work.now count }
-    ensures { let ts = tasks_in tasks.now in
-        result ≡ cost (weights ts) (least_in ts count work.now) }
-{
-    find_least(work, tasks, count).cost
+    // The cost of the least open node.
+    pub fn bound(&self) -> u64
+        requires { 1 ≤ self.now.count }
+        ensures { result ≡ cost self.now.weights.items (least_open self.now) }
+    {
+        self.least().cost
+    }
+
+    // Lists a child after the open nodes: node with one period set.
+    pub fn append_child(&mut self, node: &[u32], i: usize, period: u32)
+        requires room { self.old.count < self.old.room }
+        requires node { (length node.now ≡ length self.old.weights.items) × (i < length node.now) }
+        ensures same { SameSpace self.old self.new }
+        ensures count { self.new.count ≡ self.old.count + 1 }
+        ensures listed { open_nodes self.new ≡ open_nodes self.old ++ (set node.now i period ∷ []) }
+    {
+        let k = self.count;
+        self.place(k, node);
+        self.work[k * node.len() + i] = period;
+        self.count += 1;
+    }
 }

@@ -5,8 +5,8 @@ use mathlib.Core.Logic.{inl, inr}
 use mathlib.Core.List.{List, [], ◌∷◌}
 use Prim.Native.Nat.{ℕ, suc, ◌+◌, ◌-◌, ◌*◌, ◌≤◌, ◌<◌}
 use native.Mathlib.Omega.{arith}
-use lib.ListN.{length, take, drop, length-drop}
-use lib.Seq.{take-take, length-take-le}
+use lib.ListN.{length, take, drop}
+use lib.Seq.{length-take-le}
 use borrow.Author.Tests.{eqb-true, not-false}
 use Rattle.plan.specs.Lists.{tabulate}
 use Rattle.plan.specs.Faults.{none, fault_if, first_fault}
@@ -15,7 +15,7 @@ use Rattle.plan.specs.Layout.{task_count, name_width}
 use Rattle.plan.specs.Names.{name_field, name_ok}
 use Rattle.plan.specs.Files.{task_of, row_fault, task_fault, layout_fault, gap_fault, tasks_fault, same_name_fault, file_fault}
 use Rattle.plan.specs.Files.{repeat_fault, accepted, tasks_of, is_named}
-use Rattle.plan.specs.Inner.{areas_of, AreasOf, name_length, NameAt}
+use Rattle.plan.specs.Inner.{areas_of, AreasOf, IsAt, name_length, NameAt}
 use Rattle.plan.specs.Promises.{Names}
 use Rattle.plan.proofs.Tests.{bool, le-between}
 use Rattle.plan.proofs.Lists.{tabulate-length, tabulate-at}
@@ -115,23 +115,15 @@ module _ (s : List ℕ) (names i : ℕ) (w : NameAt s names i) where
   is_named_lem = rw w.accepts (le-between 1 (i + 1) (task_count s) (omega arith) (omega (arith, w.inside)))
 
   pub a-name :
-      (p p' : ℕ × ℕ) (k : ℕ) → p'.0 ≡ p.0 → p'.1 ≡ names + name_width * i + p.1
-      → k ≡ name_length (take name_width (drop (names + name_width * i) s))
-      → Names p s (i + 1) p' (take (names + name_width * i + k - (names + name_width * i)) (drop (names + name_width * i) s))
-  a-name p p' k b o e =
-      let at : ℕ = names + name_width * i in
-      let f : List ℕ = take name_width (drop at s) in
-      let same : name_field s i ≡ f = rw w.begins in
-      let ok = rw same at (accepted-name s w.accepts i w.inside) in
-      let long : length f ≡ name_width = length-take-le name_width (drop at s) (simp length-drop (omega (arith, name-inside))) in
-      let few : name_length f ≤ name_width = omega (arith, name_length-le f) in
-      let whole : at + k - at ≡ name_length f = omega arith in
-      let q : take (at + k - at) (drop at s) ≡ take (name_length f) f =
-      rw whole (sym (take-take (name_length f) name_width (drop at s) few)) in
+      (p p' : ℕ × ℕ) (field : List ℕ) (k : ℕ) → field ≡ take name_width (drop (names + name_width * i) s)
+      → IsAt p (names + name_width * i) p' → k ≡ name_length field → Names p s (i + 1) p' (take k field)
+  a-name p p' field k f place e =
+      let is : name_field s i ≡ field = rw (← w.begins) (sym f) in
+      let ok : name_ok field ≡ true = rw is at (accepted-name s w.accepts i w.inside) in
       let j : i + 1 - 1 ≡ i = omega arith in
       record {
-        block = b;
-        offset = rw (is_named_lem, j, ← w.begins) o;
-        bytes = rw (is_named_lem, j, same) (q ∙ sym (name-is f ok));
-        not_empty = λ t. rw (q, length-take-le (name_length f) f (name_length-le f)) (name-some f ok);
+        block = place.block;
+        offset = rw (is_named_lem, j, ← w.begins) place.offset;
+        bytes = rw (is_named_lem, j, is, e) (sym (name-is field ok));
+        not_empty = λ t. rw (e, length-take-le (name_length field) field (name_length-le field)) (name-some field ok);
       }

@@ -1,11 +1,12 @@
 -- Numbers as bytes: words of two and four bytes, bytes that are written one by one, and what they read back as.
 use mathlib.Core.Path.{◌≡◌, refl, ap}
 use mathlib.Core.List.{List, ◌++◌}
-use Prim.Native.Nat.{ℕ, zero, suc, ◌+◌, ◌-◌, ◌*◌, ◌/◌, ◌%◌, ◌^◌, ◌≤◌, ◌<◌}
+use Prim.Native.Nat.{ℕ, zero, suc, ◌+◌, ◌*◌, ◌/◌, ◌^◌, ◌≤◌, ◌<◌}
 use native.Mathlib.Nat.{pow-succ', mod-add-div}
 use native.Mathlib.Omega.{arith}
-use lib.ListN.{length, get_or, drop, set}
+use lib.ListN.{length, get_or, drop}
 use lib.Seq.{sets, drop-cons}
+use Rattle.std.specs.Int.{w16, w32, to_le_bytes}
 use Rattle.plan.specs.Words.{value_of, bytes_of, words_of, word}
 use Rattle.plan.proofs.Lists.{sets-append}
 use Rattle.plan.proofs.Joined.{joined_length, joined-from}
@@ -23,6 +24,18 @@ bytes-value (suc width) v h =
     let e : value_of (bytes_of width (v / 256)) ≡ v / 256 = bytes-value width (v / 256) (omega arith) in
     rw e (mod-add-div v 256)
 
+-- the same bytes by their places
+pub two_bytes : (v : ℕ) → to_le_bytes w16 v ≡ bytes_of 2 v
+unfolding bytes_of
+two_bytes v = refl
+
+pub four-bytes : (v : ℕ) → to_le_bytes w32 v ≡ bytes_of 4 v
+unfolding bytes_of
+four-bytes v =
+    let a : v / 65536 ≡ v / 256 / 256 = omega arith in
+    let b : v / 16777216 ≡ v / 256 / 256 / 256 = omega arith in
+    rw (a, b)
+
 -- a word byte by byte
 module _ (s : List ℕ) (at : ℕ) where
   word_none : word s at 0 ≡ 0
@@ -37,23 +50,14 @@ pub word_two : (s : List ℕ) (at : ℕ) → at + 2 ≤ length s → word s at 2
 word_two s at h =
     rw (word-cons s at 1 (omega arith), word-cons s (at + 1) 0 (omega arith), word_none s (at + 1 + 1)) (omega arith)
 
-pub word-four : (s : List ℕ) (at : ℕ) → at + 4 ≤ length s → word s at 4 ≡ word s at 2 + 65536 * word s (at + 2) 2
+pub word-four : (s : List ℕ) (at : ℕ) → at + 4 ≤ length s
+    → word s at 4
+    ≡ get_or s at 0 + 256 * get_or s (at + 1) 0 + 65536 * get_or s (at + 2) 0 + 16777216 * get_or s (at + 3) 0
 word-four s at h =
     let a : at + 1 + 1 ≡ at + 2 = omega arith in
-    rw (word-cons s at 3 (omega arith), word-cons s (at + 1) 2 (omega arith), a) (omega (arith, word_two s at (omega arith)))
-
--- a number that is written byte by byte: what is to be stored yet, from byte i on
-pub byte_next : (out : List ℕ) (at width i v : ℕ) → i < width
-    → sets (set out (at + i) (v % 256)) (at + (i + 1)) (bytes_of (width - (i + 1)) (v / 256)) ≡ sets out (at + i) (bytes_of (width - i) v)
-unfolding bytes_of
-byte_next out at width i v h =
-    let e : width - i ≡ suc (width - (i + 1)) = omega arith in
-    let a : at + (i + 1) ≡ suc (at + i) = omega arith in
-    rw (e, a)
-
-pub bytes-end : (out : List ℕ) (at width i v : ℕ) → width ≤ i → sets out at (bytes_of (width - i) v) ≡ out
-unfolding bytes_of
-bytes-end out at width i v h = let e : width - i ≡ 0 = omega arith in rw e
+    let b : at + 2 + 1 ≡ at + 3 = omega arith in
+    rw (word-cons s at 3 (omega arith), word-cons s (at + 1) 2 (omega arith), a, word_two s (at + 2) (omega arith), b)
+    (omega arith)
 
 -- a number that is stored, then what stands behind it
 abbrev pub put : List ℕ → ℕ → ℕ → ℕ → List ℕ

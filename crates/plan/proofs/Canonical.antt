@@ -4,28 +4,29 @@ use mathlib.Core.Path.{◌≡◌, refl, sym, ap, ◌∙◌}
 use mathlib.Core.Bool.{true, false}
 use mathlib.Core.Logic.{inl, inr}
 use mathlib.Core.List.{List, [], ◌∷◌, ◌++◌, append_assoc}
-use Prim.Native.Nat.{ℕ, zero, suc, ◌+◌, ◌-◌, ◌*◌, ◌^◌, ◌≤◌, ◌<◌}
+use Prim.Native.Nat.{ℕ, ◌+◌, ◌-◌, ◌*◌, ◌^◌, ◌≤◌, ◌<◌}
 use native.Mathlib.Omega.{arith}
-use native.Mathlib.Numerals.{add-one}
 use native.Mathlib.Nat.{mul-le-mul_left}
 use lib.Dec.{eqb}
-use lib.ListN.{length, get_or, take, drop, replicate, length-append, length-replicate}
-use lib.Seq.{sets, drop-cons, drop-drop, take_at, drop-append-le, drop-append-add}
+use lib.ListN.{length, get_or, take, drop, replicate, length-append, length-drop, length-replicate}
+use lib.Seq.{sets, length-sets, length-take-le, drop-drop, take_at, drop-append-le, drop-append-add}
 use borrow.Author.Tests.{eq-eqb, ne_eqb, eqb-true, le-ltb}
-use Rattle.plan.specs.declared.record.Task.{Task}
+use Rattle.plan.specs.declared.tasks.Task.{Task}
+use Rattle.std.specs.Int.{w16, to_le_bytes}
 use Rattle.plan.specs.Faults.{none}
 use Rattle.plan.specs.Words.{bytes_of, words_of}
 use Rattle.plan.specs.Tasks.{min_file, max_file, max_tasks, no_task, task_at, further_field, row_at}
-use Rattle.plan.specs.Table.{row_of}
+use Rattle.plan.specs.Tasks.{row_of}
 use Rattle.plan.specs.Layout.{header_width, row_numbers, row_size, name_width, version, task_count, total_length, in_gap}
 use Rattle.plan.specs.Layout.{rows_at, names_at}
 use Rattle.plan.specs.Names.{name_field}
 use Rattle.plan.specs.Files.{layout_fault, stray_fault, gap_fault, task_of}
 use Rattle.plan.specs.Canonical.{is_plain, version_for, row_bytes, name_bytes, header_bytes, rows_bytes, names_bytes, rows_to, names_to, canonical}
 use Rattle.plan.proofs.Tests.{le-or-lt, eq-or-ne, le-between, and_left, and_right, and-false}
-use Rattle.plan.proofs.Lists.{sets-append, sets-whole}
+use Rattle.plan.proofs.Lists.{sets-append, sets-whole, written-over}
+use borrow.Rule.Slice.PartMut.{put_mid}
 use Rattle.plan.proofs.Joined.{joined_length, joined-from}
-use Rattle.plan.proofs.Bytes.{bytes-value, words-length, put, put_then}
+use Rattle.plan.proofs.Bytes.{two_bytes, bytes-value, words-length, put_then}
 use Rattle.plan.proofs.Rules.{run-all}
 use Rattle.plan.proofs.Gaps.{area-spans}
 use Rattle.plan.proofs.Versions.{row-range, row-front, version-range, all_plain}
@@ -124,10 +125,11 @@ unfolding header_bytes words_of bytes_of
 header-length v n names total = refl
 
 -- written number by number
-pub header-put : (b : List ℕ) (v n names total : ℕ)
-    → put (put (put (put (put b 0 2 v) 2 2 n) 4 4 header_width) 8 4 names) 12 4 total ≡ sets b 0 (header_bytes v n names total)
-unfolding header_bytes words_of
-header-put b v n names total = simp put_then
+pub header-put : (b : List ℕ) (v n names total : ℕ) {vs ns : List ℕ} → vs ≡ to_le_bytes w16 v → ns ≡ to_le_bytes w16 n
+    → sets (sets (sets b 0 vs) 2 ns) 4 (words_of (header_width ∷ names ∷ total ∷ []))
+    ≡ sets b 0 (header_bytes v n names total)
+unfolding header_bytes
+header-put b v n names total e f = rw (e ∙ two_bytes v, f ∙ two_bytes n) (simp put_then)
 
 -- tasks and names that fit their rows and fields
 pub record Formable (ts : List Task) (ns : List (List ℕ)) : Type 0 where
@@ -137,22 +139,23 @@ pub record Formable (ts : List Task) (ns : List (List ℕ)) : Type 0 where
   pub tasks : (i : ℕ) → i < length ts → Narrow (task_at ts i)
   pub names : (i : ℕ) → i < length ns → length (get_or ns i []) ≤ name_width
 
--- a name's field, and its bytes from k on
-padded-at : (name : List ℕ) (m k : ℕ) → get_or (name ++ replicate m 0) k 0 ≡ get_or name k 0
-padded-at [] zero k = refl
-padded-at [] (suc m) zero = refl
-padded-at [] (suc m) (suc k) = padded-at [] m k
-padded-at (b ∷ name) m zero = refl
-padded-at (b ∷ name) m (suc k) = padded-at name m k
-
+-- a name's field, and the name written with zeros behind it
 pub name-long : (name : List ℕ) → length name ≤ name_width → length (name_bytes name) ≡ name_width
 name-long name h = simp (length-append, length-replicate {A = ℕ}) (omega arith)
 
-pub name-from : (name : List ℕ) (k : ℕ) → length name ≤ name_width → k < name_width
-    → drop k (name_bytes name) ≡ get_or name k 0 ∷ drop (k + 1) (name_bytes name)
-name-from name k h l =
-    let n : k < length (name_bytes name) = omega (arith, name-long name h) in
-    rw (add-one k) (drop-cons (name_bytes name) k 0 n ∙ ap (λ b. b ∷ drop (suc k) (name_bytes name)) (padded-at name (name_width - length name) k))
+pub name-put : (out name : List ℕ) (at k : ℕ) {named zeros : List ℕ} → at + name_width ≤ length out
+    → length name ≤ name_width → k ≡ name_width - length name → named ≡ sets out at name
+    → zeros ≡ replicate (length (take k (drop (at + length name) named))) 0
+    → put_mid (at + length name) k named zeros ≡ sets out at (name_bytes name)
+name-put out name at k {named} {zeros} h l n e f =
+    let size : length named ≡ length out = ap length e ∙ length-sets out at name in
+    let few : k ≤ length (drop (at + length name) named) = simp length-drop (omega arith) in
+    let z : zeros ≡ replicate (name_width - length name) 0 =
+    f ∙ ap (λ m. replicate {A = ℕ} m 0) (length-take-le k (drop (at + length name) named) few ∙ n) in
+    let long = length-replicate {A = ℕ} (name_width - length name) 0 in
+    written-over named zeros (replicate (name_width - length name) 0) (at + length name) k (omega (arith, long))
+    (n ∙ sym long) z
+    ∙ rw e (sym (sets-append out name (replicate (name_width - length name) 0) at))
 
 -- the areas: task i's row or name, and those behind it
 pub row-length : (v : ℕ) (t : Task) → length (row_bytes v t) ≡ row_size v

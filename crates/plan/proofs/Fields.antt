@@ -1,46 +1,21 @@
--- Fields of n bytes in a file, and what names are made of.
+-- Name fields, and what names are made of.
 use mathlib.Core.Path.{◌≡◌, refl, sym, ap, ◌∙◌}
-use mathlib.Core.Bool.{true, false, ◌&&◌, or-true, false≢true}
+use mathlib.Core.Bool.{Bool, true, false, ◌&&◌, not, cond, false≢true}
 use mathlib.Core.Logic.{inl, inr}
 use mathlib.Core.List.{List, [], ◌∷◌, ◌++◌}
-use Prim.Native.Nat.{ℕ, zero, suc, ◌+◌, ◌-◌, ◌≤◌, ◌<◌}
+use Prim.Native.Nat.{ℕ, zero, suc, ◌-◌, ◌≤◌, ◌<◌}
 use native.Mathlib.Omega.{arith}
-use lib.Dec.{eqb, leb}
+use lib.Dec.{eqb, leb, ltb}
 use lib.ListN.{length, get_or, take, drop, replicate, length-drop, take-append-drop}
-use lib.Seq.{drop-cons, drop-drop, take-nil, length-take-le}
-use borrow.Author.Tests.{ne_eqb, eqb-true, le-leb, leb-true}
+use lib.Seq.{length-take-le}
+use borrow.Author.Tests.{ne_eqb, eqb-true, le-leb, leb-true, le-ltb, lt-ltb}
+use Rattle.std.specs.Prelude.{Option, None, Some, unwrap_or}
+use Rattle.std.specs.List.{list_all, position_or_len, prefix_len}
+use Rattle.std.specs.Cmp.Lexicographic.{pointwise}
 use Rattle.plan.specs.Lists.{same}
 use Rattle.plan.specs.Names.{is_name_byte, all_zero, name_then_zeros, name_ok, without_zeros, name_field, named_earlier}
 use Rattle.plan.specs.Inner.{name_length}
-use Rattle.plan.proofs.Tests.{bool, eq-or-ne, and_left, and_right}
-
--- what is left of a field of n bytes after k of them
-abbrev pub field_from : List ℕ → ℕ → ℕ → ℕ → List ℕ
-field_from s at n k = take (n - k) (drop (at + k) s)
-
-drop-take : (k n : ℕ) (l : List ℕ) → drop k (take n l) ≡ take (n - k) (drop k l)
-drop-take zero n l = let e : n - 0 ≡ n = omega arith in rw e
-drop-take (suc k) zero l = let e : 0 - suc k ≡ 0 = omega arith in rw e
-drop-take (suc k) (suc n) [] = let e : suc n - suc k ≡ n - k = omega arith in rw e (sym (take-nil (n - k)))
-drop-take (suc k) (suc n) (x ∷ l) = let e : suc n - suc k ≡ n - k = omega arith in rw e (drop-take k n l)
-
-module _ (s : List ℕ) (at n : ℕ) where
-  pub field-all : take n (drop at s) ≡ field_from s at n 0
-  field-all = let e : n - 0 ≡ n = omega arith in let a : at + 0 ≡ at = omega arith in rw (e, a)
-
-  module _ (k : ℕ) where
-    pub field_next : k < n → at + n ≤ length s → field_from s at n k ≡ get_or s (at + k) 0 ∷ field_from s at n (k + 1)
-    field_next h l =
-        let e : n - k ≡ suc (n - (k + 1)) = omega arith in
-        let a : at + (k + 1) ≡ suc (at + k) = omega arith in
-        let b : at + k < length s = omega arith in
-        rw (e, a, drop-cons s (at + k) 0 b)
-
-    pub field_end : n ≤ k → field_from s at n k ≡ []
-    field_end h = let e : n - k ≡ 0 = omega arith in rw e
-
-    pub field-drop : drop k (take n (drop at s)) ≡ field_from s at n k
-    field-drop = drop-take k n (drop at s) ∙ ap (take (n - k)) (drop-drop k at s)
+use Rattle.plan.proofs.Tests.{bool, le-or-lt, eq-or-ne, and_left, and_right}
 
 -- a byte before others
 module _ (b : ℕ) (bs : List ℕ) where
@@ -68,6 +43,10 @@ name-rest (b ∷ bs) = elim (bool (is_name_byte b)) [
 pub name_ok-is : (l : List ℕ) → name_ok l ≡ (leb 1 (name_length l) && all_zero (drop (name_length l) l))
 name_ok-is l = rw (name-begins, name-rest)
 
+pub all_zero-is : (l : List ℕ) → all_zero l ≡ list_all (λ b. eqb b 0) l
+all_zero-is [] = refl
+all_zero-is (b ∷ bs) = ap (λ r. eqb b 0 && r) (all_zero-is bs)
+
 -- a good name without its zeros is the name bytes that its field begins with
 zero-no_name : (b : ℕ) → b ≡ 0 → is_name_byte b ≡ false
 zero-no_name b e = rw e
@@ -93,6 +72,26 @@ name_length-le (b ∷ bs) = elim (bool (is_name_byte b)) [
   | inr e ↦ omega (arith, length-stop b bs e)
 ]
 
+-- so many name bytes stand before the first that is none, or before the end
+abbrev pub is_other : ℕ → Bool
+is_other b = not (is_name_byte b)
+
+length-is : (l : List ℕ) → name_length l ≡ position_or_len is_other l
+length-is [] = refl
+length-is (b ∷ bs) = elim (bool (is_name_byte b)) [
+  | inl e ↦ rw (length_more b bs e, e, position_or_len, prefix_len) (omega (arith, length-is bs))
+  | inr e ↦ rw (length-stop b bs e, e, position_or_len, prefix_len) refl
+]
+
+pub length-found : (l : List ℕ) (r : Option ℕ)
+    → r ≡ cond (ltb (position_or_len is_other l) (length l)) (Some (position_or_len is_other l)) None
+    → unwrap_or r (length l) ≡ name_length l
+length-found l r e = elim (le-or-lt (length l) (name_length l)) [
+  | inl h ↦ let z : name_length l ≡ length l = omega (arith, name_length-le l) in
+      rw (e, ← length-is l, le-ltb (name_length l) (length l) h) (sym z)
+  | inr h ↦ rw (e, ← length-is l, lt-ltb (name_length l) (length l) h) refl
+]
+
 pub name-some : (l : List ℕ) → name_ok l ≡ true → 1 ≤ name_length l
 name-some l e =
     leb-true 1 (name_length l) (sym (name-begins l) ∙ and_left (is_name_byte (get_or l 0 0)) (name_then_zeros l) e)
@@ -112,13 +111,12 @@ name-padded l e =
     let rest : drop k l ≡ replicate (length l - k) 0 = rw (length-drop k l) at (zeros (drop k l) z) in
     rw (name-is l e, size, ← rest) (take-append-drop k l)
 
--- task i has the name of an earlier one
-pub earlier-found : (s : List ℕ) (i j m : ℕ) → j < m → same (name_field s i) (name_field s j) ≡ true → named_earlier s i m ≡ true
-earlier-found s i j zero h e = let z : ⊥ = omega arith in absurd z
-earlier-found s i j (suc m) h e = elim (eq-or-ne j m) [
-  | inl z ↦ rw (← z, e) (or-true (named_earlier s i j))
-  | inr z ↦ rw (earlier-found s i j m (omega arith) e)
-]
+-- names are compared byte by byte
+pub same-pointwise : (l m : List ℕ) → same l m ≡ pointwise eqb l m
+same-pointwise [] [] = refl
+same-pointwise [] (y ∷ ys) = refl
+same-pointwise (x ∷ xs) [] = refl
+same-pointwise (x ∷ xs) (y ∷ ys) = ap (λ r. eqb x y && r) (same-pointwise xs ys)
 
 -- two files whose first n names are equal
 pub earlier-same :

@@ -1,11 +1,10 @@
 -- A list filled from the front with another's elements, one turn at a time.
 use mathlib.Core.Path.{◌≡◌, refl, ap}
-use mathlib.Core.List.{List, [], ◌∷◌, ◌++◌, append-nil}
+use mathlib.Core.List.{List, [], ◌∷◌, ◌++◌}
 use Prim.Native.Nat.{ℕ, zero, suc, ◌+◌, ◌≤◌, ◌<◌}
 use native.Mathlib.Numerals.{add-one}
 use native.Mathlib.Omega.{arith}
-use lib.ListN.{length, get_or, take, drop, set, length-set, drop_of_length-le}
-use lib.Seq.{take_all, take_at}
+use lib.ListN.{length, get_or, take, drop, set, length-set}
 
 -- the first i elements are those of xs, the others those of zs
 pub record Filled (xs zs ys : List ℕ) (i : ℕ) : Type 0 where
@@ -13,9 +12,6 @@ pub record Filled (xs zs ys : List ℕ) (i : ℕ) : Type 0 where
   pub room : length xs ≤ length zs
   pub size : length ys ≡ length zs
   pub is : ys ≡ take i xs ++ drop i zs
-
-pub filled_none : (xs zs : List ℕ) → length xs ≤ length zs → Filled xs zs zs 0
-filled_none xs zs h = record { upto = omega arith; room = h; size = refl; is = refl }
 
 one_more : (i : ℕ) (xs zs : List ℕ) → i < length xs → length xs ≤ length zs
     → set (take i xs ++ drop i zs) i (get_or xs i 0) ≡ take (suc i) xs ++ drop (suc i) zs
@@ -34,9 +30,3 @@ module _ {xs zs ys : List ℕ} {i : ℕ} (f : Filled xs zs ys i) where
     size = simp length-set f.size;
     is = rw (f.is, e, add-one i) (one_more i xs zs h f.room);
   }
-
-  pub filled-front : {n : ℕ} → length xs ≡ n → n ≤ i → take n ys ≡ xs
-  filled-front {n} e h = rw (f.is, take_all i xs (omega arith)) (take_at xs (drop i zs) n e)
-
-  pub filled-whole : length xs ≤ i → length xs ≡ length zs → ys ≡ xs
-  filled-whole h e = rw (f.is, take_all i xs h, drop_of_length-le zs {i = i} (omega arith)) (append-nil xs)

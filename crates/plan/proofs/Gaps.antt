@@ -1,95 +1,138 @@
--- Gaps: where no area holds a byte, how far an area goes, and the search for a stray byte.
+-- Gaps: the bytes in no area, and the first of them that is not zero.
 use mathlib.Core.Path.{◌≡◌, refl, sym, ◌∙◌}
-use mathlib.Core.Bool.{true, false}
-use mathlib.Core.Logic.{inl, inr}
+use mathlib.Core.Bool.{Bool, true, false, not, ◌&&◌, and-true, and_comm}
+use mathlib.Core.Logic.{◌⊎◌, inl, inr}
 use mathlib.Core.List.{List}
-use Prim.Native.Nat.{ℕ, ◌+◌, ◌-◌, ◌≤◌, ◌<◌}
+use Prim.Native.Nat.{ℕ, ◌+◌, ◌-◌, ◌≤◌, ◌<◌, min, max}
 use native.Mathlib.Omega.{arith}
-use lib.Dec.{leb, ltb}
+use lib.Dec.{eqb, leb}
 use lib.ListN.{length, get_or}
-use borrow.Author.Tests.{leb-true, ltb-true, le-leb, lt-ltb, eq-eqb, ne_eqb}
+use borrow.Author.Tests.{ltb-false, le-leb, lt-ltb, lt-leb, le-ltb}
+use Rattle.std.specs.Prelude.{Option, None, Some}
+use Rattle.std.specs.List.{between}
+use Rattle.std.specs.Option.{MatchOption, option_map}
+use Rattle.std.proofs.lemmas.List.Edits.{length-between, get_or-between}
 use Rattle.plan.specs.declared.layout.Areas.{Areas}
-use Rattle.plan.specs.Faults.{fault, none, first_from}
-use Rattle.plan.specs.Layout.{header_width, rows_at, rows_end_of, names_at, names_end_of, in_area, in_gap}
+use Rattle.plan.specs.Faults.{fault, none, or_else, first_from}
+use Rattle.plan.specs.Layout.{header_width, rows_at, rows_end_of, names_at, names_end_of, overlap, in_area, in_gap}
 use Rattle.plan.specs.Files.{stray_fault, gap_fault}
-use Rattle.plan.specs.Inner.{areas_of, AreasOf, area_end}
-use Rattle.plan.proofs.Tests.{bool, and_left, and_right, and_both, and-false}
-use Rattle.plan.proofs.Rules.{run-if, run-next, run-skip, run_end}
+use Rattle.plan.specs.Inner.{AreasOf, byte_fault, bytes_fault}
+use Rattle.plan.proofs.Tests.{le-or-lt, and_both, and-false}
+use Rattle.plan.proofs.Rules.{run-same, run-on, run-all, run-found, FirstPassing, position-broken, fault_at}
 
-area-holds : (start end at : ℕ) → in_area start end at ≡ true → (start ≤ at) × (at < end)
-area-holds start end at e =
-    let from = leb start at in
-    let to = ltb at end in
-    (leb-true start at (and_left from to e), ltb-true at end (and_right from to e))
-
+-- where an area is, and where it is not
 pub area-spans : (start end k : ℕ) → start ≤ k → k < end → in_area start end k ≡ true
 area-spans start end k l m = and_both (le-leb start k l) (lt-ltb k end m)
 
--- bytes up to an end that is inside the file, none of them in a gap
-record Past (s : List ℕ) (at end : ℕ) : Type 0 where
-  further : at < end
-  within : end ≤ length s
-  no_gap : (k : ℕ) → at ≤ k → k < end → in_gap s k ≡ false
+area_before : (start end k : ℕ) → k < start → in_area start end k ≡ false
+area_before start end k l = rw (lt-leb start k l) refl
 
-module _ {s : List ℕ} {a : Areas} (w : AreasOf s a) (at : ℕ) where
-  same_end : area_end a at ≡ area_end (areas_of s) at
-  same_end = rw (w.rows, w.rows_end, w.names, w.names_end)
+area-behind : (start end k : ℕ) → end ≤ k → in_area start end k ≡ false
+area-behind start end k l = rw (le-ltb k end l) (and-false (leb start k))
 
-  in_gap_lem : area_end a at ≡ at → in_gap s at ≡ true
-  in_gap_lem e = elim (bool (in_area (rows_at s) (rows_end_of s) at)) [
-    | inl r ↦ let z : rows_end_of s ≡ at = rw r at (sym same_end ∙ e) in absurd (omega (arith, area-holds (rows_at s) (rows_end_of s) at r))
-    | inr r ↦ elim (bool (in_area (names_at s) (names_end_of s) at)) [
-      | inl n ↦ let z : names_end_of s ≡ at = rw (r, n) at (sym same_end ∙ e) in
-          absurd (omega (arith, area-holds (names_at s) (names_end_of s) at n))
-      | inr n ↦ rw (r, n)
+-- of a byte in a gap the rule asks that it is zero, of one in an area nothing
+module _ (s : List ℕ) (start end : ℕ) (l : start ≤ end) where
+  gap-run : ((k : ℕ) → start ≤ k → k < end → in_gap s k ≡ true)
+      → first_from (stray_fault s) (end - start) start ≡ bytes_fault s start end
+  gap-run g = run-same (stray_fault s) (byte_fault s) (end - start) start (λ k p q. rw (g k p (omega arith)))
+
+  area-run : ((k : ℕ) → start ≤ k → k < end → in_gap s k ≡ false)
+      → first_from (stray_fault s) (end - start) start ≡ none
+  area-run g = run-all (stray_fault s) (end - start) start (λ k p q. rw (g k p (omega arith)))
+
+-- areas from a to b and from c to d, in this order
+module _ (s : List ℕ) (a b c d : ℕ) (gap : (k : ℕ) → in_gap s k ≡ (not (in_area a b k) && not (in_area c d k))) where
+  three_gaps : header_width ≤ a → a ≤ b → b ≤ c → c ≤ d → d ≤ length s
+      → gap_fault s ≡ or_else (bytes_fault s header_width a) (or_else (bytes_fault s b c) (bytes_fault s d (length s)))
+  three_gaps ha ab bc cd dn =
+      let f = stray_fault s in
+      let n = length s in
+      let before =
+      gap-run s header_width a ha (λ k p q. rw (gap k, area_before a b k q, area_before c d k (omega arith))) in
+      let first = area-run s a b ab (λ k p q. rw (gap k, area-spans a b k p q)) in
+      let between = gap-run s b c bc (λ k p q. rw (gap k, area-behind a b k p, area_before c d k q)) in
+      let second = area-run s c d cd (λ k p q. rw (gap k, area-spans c d k p q, and-false (not (in_area a b k)))) in
+      let behind = gap-run s d n dn (λ k p q. rw (gap k, area-behind a b k (omega arith), area-behind c d k p)) in
+      run-on f header_width a n ha (omega arith)
+      ∙ rw (
+        before,
+        run-on f a b n ab (omega arith),
+        first,
+        run-on f b c n bc (omega arith),
+        between,
+        run-on f c d n cd dn,
+        second,
+        behind,
+      )
+
+-- the areas of a file that passed the rules 1 to 6, in whichever order
+apart-order : (s : List ℕ) → overlap (rows_at s) (rows_end_of s) (names_at s) (names_end_of s) ≡ false
+    → (rows_end_of s ≤ names_at s) ⊎ (names_end_of s ≤ rows_at s)
+apart-order s e = elim (le-or-lt (rows_end_of s) (names_at s)) [
+  | inl h ↦ inl h
+  | inr h ↦ inr (ltb-false (rows_at s) (names_end_of s) (rw (lt-ltb (names_at s) (rows_end_of s) h, and-true) at e))
+]
+
+pub gaps_in_order : (s : List ℕ) (a : Areas) → AreasOf s a
+    → gap_fault s
+    ≡ or_else (bytes_fault s header_width (min a.rows.start a.names.start))
+    (or_else (bytes_fault s (min a.rows.end a.names.end) (max a.rows.start a.names.start))
+    (bytes_fault s (max a.rows.end a.names.end) (length s)))
+gaps_in_order s a w =
+    let r = a.rows in
+    let m = a.names in
+    elim (apart-order s w.apart) [
+      | inl h ↦ let p : min r.start m.start ≡ rows_at s = omega (arith, w.rows, w.names) in
+          let q : min r.end m.end ≡ rows_end_of s = omega (arith, w.rows_end, w.names_end) in
+          let u : max r.start m.start ≡ names_at s = omega (arith, w.rows, w.names) in
+          let v : max r.end m.end ≡ names_end_of s = omega (arith, w.rows_end, w.names_end) in
+          rw (p, q, u, v)
+          (three_gaps s (rows_at s) (rows_end_of s) (names_at s) (names_end_of s) (λ k. refl) w.rows-from
+          (omega arith) h (omega arith) w.names_to)
+      | inr h ↦ let p : min r.start m.start ≡ names_at s = omega (arith, w.rows, w.names) in
+          let q : min r.end m.end ≡ names_end_of s = omega (arith, w.rows_end, w.names_end) in
+          let u : max r.start m.start ≡ rows_at s = omega (arith, w.rows, w.names) in
+          let v : max r.end m.end ≡ rows_end_of s = omega (arith, w.rows_end, w.names_end) in
+          rw (p, q, u, v)
+          (three_gaps s (names_at s) (names_end_of s) (rows_at s) (rows_end_of s)
+          (λ k. and_comm (not (in_area (rows_at s) (rows_end_of s) k)) (not (in_area (names_at s) (names_end_of s) k)))
+          w.names-from (omega arith) h (omega arith) w.rows_to)
     ]
-  ]
 
-  area-past : (start end : ℕ) → end ≤ length s → ((k : ℕ) → in_area start end k ≡ true → in_gap s k ≡ false)
-      → in_area start end at ≡ true → Past s at end
-  area-past start end l g e =
-      let q = area-holds start end at e in
-      record { further = q.1; within = l; no_gap = λ k m n. g k (area-spans start end k (omega arith) n) }
+-- the first byte of a gap that is not zero
+abbrev pub is_nonzero : ℕ → Bool
+is_nonzero b = not (eqb b 0)
 
-  past-area : (area_end a at ≡ at → ⊥) → Past s at (area_end a at)
-  past-area h = elim (bool (in_area (rows_at s) (rows_end_of s) at)) [
-    | inl r ↦ rw (same_end, r) (area-past (rows_at s) (rows_end_of s) w.rows_to (λ k e. rw e) r)
-    | inr r ↦ elim (bool (in_area (names_at s) (names_end_of s) at)) [
-      | inl n ↦ rw (same_end, r, n) (area-past (names_at s) (names_end_of s) w.names_to (λ k e. rw (e, and-false)) n)
-      | inr n ↦ absurd (h (same_end ∙ rw (r, n)))
-    ]
-  ]
+module _ (s : List ℕ) (start end : ℕ) (l : start ≤ end) (m : end ≤ length s) where
+  abbrev pub part : List ℕ
+  part = between start end s
 
--- a search for a stray byte stands at an offset: no byte before it is one
-pub record Clear (s : List ℕ) (at : ℕ) : Type 0 where
-  pub within : at ≤ length s
-  pub so_far : gap_fault s ≡ first_from (stray_fault s) (length s - at) at
+  part-length : start + length part ≡ end
+  part-length = omega (arith, length-between s start end m)
 
-pub clear_none : {s : List ℕ} {a : Areas} → AreasOf s a → Clear s header_width
-clear_none w = record { within = omega arith; so_far = refl }
+  part-at : (k : ℕ) → k < length part → get_or part k 0 ≡ get_or s (start + k) 0
+  part-at k h = get_or-between s start end k 0 (omega (arith, part-length))
 
-pub clear-end : {s : List ℕ} {at : ℕ} → Clear s at → length s ≤ at → gap_fault s ≡ none
-clear-end {s} {at} c l = c.so_far ∙ run_end (stray_fault s) (length s) at l
+  zero-passes : (k : ℕ) → k < length part → is_nonzero (get_or part k 0) ≡ false → (byte_fault s (start + k)).number ≡ 0
+  zero-passes k h e = let z = rw (part-at k h) at e in rw z
 
--- a turn of the search, with the end of the area that holds the byte
-module _ {s : List ℕ} {a : Areas} (w : AreasOf s a) {at : ℕ} (c : Clear s at) {end : ℕ} (is : end ≡ area_end a at) where
-  module _ (l : at < length s) (e : end ≡ at) where
-    gap : in_gap s at ≡ true
-    gap = in_gap_lem w at (sym is ∙ e)
+  other_breaks : (k : ℕ) → k < length part → is_nonzero (get_or part k 0) ≡ true
+      → (byte_fault s (start + k)).number ≡ 0 → ⊥
+  other_breaks k h e z =
+      let t : is_nonzero (get_or s (start + k) 0) ≡ true = rw (part-at k h) at e in
+      let n : ◌≡◌ {A = ℕ} 7 0 = rw t at z in
+      omega arith
 
-    pub stray-here : (get_or s at 0 ≡ 0 → ⊥) → gap_fault s ≡ fault 7 at
-    stray-here h = c.so_far ∙ run-if (stray_fault s) (length s) at 6 at l (rw (gap, ne_eqb (get_or s at 0) 0 h))
+  first-run : (r : Option ℕ) → FirstPassing is_nonzero part 0 r
+      → bytes_fault s start end ≡ fault_at (byte_fault s) (option_map (λ k. start + k) r)
+  first-run r h =
+      rw part-length at
+      (run-found (byte_fault s) start (start + length part) (option_map (λ k. start + k) r)
+      (position-broken is_nonzero part 0 (byte_fault s) start zero-passes other_breaks r h))
 
-    pub clear_next : get_or s at 0 ≡ 0 → Clear s (at + 1)
-    clear_next z = record {
-      within = omega arith;
-      so_far = c.so_far ∙ run-next (stray_fault s) (length s) at l (rw (gap, eq-eqb (get_or s at 0) 0 z));
-    }
-
-  pub clear-past : (end ≡ at → ⊥) → (at < end) × Clear s end
-  clear-past h =
-      let p : Past s at end = rw is (past-area w at (λ z. h (is ∙ z))) in
-      let k = end - at in
-      let e : at + k ≡ end = omega (arith, p.further) in
-      let skip = run-skip (stray_fault s) (length s) at k (omega (arith, p.within)) (λ j m n. rw (p.no_gap j m (omega arith))) in
-      (p.further, record { within = p.within; so_far = c.so_far ∙ rw e at skip })
+  pub first_nonzero : (r : Option ℕ) → FirstPassing is_nonzero part 0 r
+      → MatchOption r (none ≡ bytes_fault s start end) (λ k. fault 7 (start + k) ≡ bytes_fault s start end)
+  first_nonzero None h = sym (first-run None h)
+  first_nonzero (Some k) h =
+      let e = rw (part-at k h.0) at (h.1 0) in
+      sym (first-run (Some k) h ∙ rw e)

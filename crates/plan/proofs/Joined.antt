@@ -1,5 +1,5 @@
 -- Parts of one length that are joined; and lists stored part by part.
-use mathlib.Core.Path.{◌≡◌, refl, sym, ap, ◌∙◌}
+use mathlib.Core.Path.{◌≡◌, sym, ap, ◌∙◌}
 use mathlib.Core.List.{List, [], ◌∷◌, ◌++◌, map}
 use Prim.Native.Nat.{ℕ, zero, suc, ◌+◌, ◌*◌, ◌≤◌, ◌<◌}
 use native.Mathlib.Omega.{arith}
@@ -52,9 +52,6 @@ module _ {A : Type 0} (f : A → List ℕ) (d : A) (w : ℕ) where
 pub record Stored (xs : List ℕ) (at : ℕ) (out₀ out : List ℕ) (k : ℕ) : Type 0 where
   pub size : length out ≡ length out₀
   pub left : sets out (at + k) (drop k xs) ≡ sets out₀ at xs
-
-pub stored-none : (xs : List ℕ) (at : ℕ) (out : List ℕ) → Stored xs at out out 0
-stored-none xs at out = let e : at + 0 ≡ at = omega arith in record { size = refl; left = rw e }
 
 module _ {xs : List ℕ} {at : ℕ} {out₀ out : List ℕ} {k : ℕ} (d : Stored xs at out₀ out k) where
   -- the next elements, up to the one at m

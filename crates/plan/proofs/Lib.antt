@@ -2,10 +2,11 @@
 pub mod Tests  -- tests as facts
 pub mod Lists  -- tabulated lists, and lists stored into others
 pub mod Fill  -- lists filled from the front
+pub mod Columns  -- a number of each task
 pub mod Rules  -- the first broken rule
+pub mod Numbers  -- refusals as numbers
 pub mod Joined  -- parts of one length, joined and stored
 pub mod Bytes  -- numbers as bytes
-pub mod Tables  -- rows and the tasks in them
 pub mod Fields  -- name fields
 pub mod Header  -- the rules 1 to 6
 mod Gaps  -- bytes in no area

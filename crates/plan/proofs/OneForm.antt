@@ -9,7 +9,7 @@ use native.Mathlib.Numerals.{add-one}
 use lib.ListN.{length, get_or, drop, length-append, length-drop}
 use lib.Seq.{length-take-le}
 use Rattle.plan.specs.declared.faults.Fault.{Fault}
-use Rattle.plan.specs.declared.record.Task.{Task}
+use Rattle.plan.specs.declared.tasks.Task.{Task}
 use Rattle.plan.specs.Lists.{tabulate}
 use Rattle.plan.specs.Faults.{none, fault_if, or_else}
 use Rattle.plan.specs.Tasks.{Valid, no_task, task_at}

@@ -2,12 +2,25 @@
 use mathlib.Core.Path.{◌≡◌, refl, sym, ap, ◌∙◌}
 use mathlib.Core.Bool.{Bool, true, false}
 use mathlib.Core.Logic.{inl, inr}
+use mathlib.Core.List.{List}
 use Prim.Native.Nat.{ℕ, zero, suc, ◌+◌, ◌-◌, ◌≤◌, ◌<◌}
 use native.Mathlib.Omega.{arith}
+use lib.ListN.{length, get_or}
 use borrow.Author.Tests.{eq-eqb, ne_eqb}
+use denote.Param.Members.{Mut}
+use denote.Ref.{Bor}
+use Rattle.std.specs.Prelude.{Option, None, Some}
+use Rattle.std.specs.Bool.{⊤}
+use Rattle.std.specs.Fn.{Called, CalledAt}
+use Rattle.std.specs.Iterator.{YieldsThen}
+use Rattle.std.specs.List.{FoldsTo, AllWithin, HoldsAt}
+use Rattle.std.specs.Option.{MatchOption, option_map}
+use Rattle.std.specs.declared.ops.Range.{Range}
+use Rattle.std.proofs.iter.Yields.{nat_range_steps}
+use Rattle.std.proofs.lemmas.Iterator.{YieldsList, first_from_Range, IsFirst-from_position}
 use Rattle.plan.specs.declared.faults.Fault.{Fault}
 use Rattle.plan.specs.Faults.{fault, none, fault_if, or_else, first_from}
-use Rattle.plan.proofs.Tests.{eq-or-ne}
+use Rattle.plan.proofs.Tests.{bool, eq-or-ne}
 
 -- a rule that passed leaves the word to the next; one that did not has it
 pub or-next : (f g : Fault) → f.number ≡ 0 → or_else f g ≡ g
@@ -61,6 +74,33 @@ run-skip f n i (suc k) h p =
     let others = run-skip f n (i + 1) k (omega arith) (λ j l m. p j (omega arith) (omega arith)) in
     run-next f n i (omega arith) (p i (omega arith) (omega arith)) ∙ rw e at others
 
+-- a run in two parts, and two runs of the same rules
+pub run-split : (f : ℕ → Fault) (a b i : ℕ)
+    → first_from f (a + b) i ≡ or_else (first_from f a i) (first_from f b (i + a))
+unfolding first_from
+run-split f zero b i = let e : i + 0 ≡ i = omega arith in let z : 0 + b ≡ b = omega arith in rw (z, e)
+run-split f (suc a) b i =
+    let e : i + suc a ≡ suc i + a = omega arith in
+    let n : suc a + b ≡ suc (a + b) = omega arith in
+    elim (eq-or-ne (f i).number 0) [
+      | inl z ↦ rw (n, e, eq-eqb (f i).number 0 z) (run-split f a b (suc i))
+      | inr z ↦ rw (n, ne_eqb (f i).number 0 z, ne_eqb (f i).number 0 z) refl
+    ]
+
+pub run-on : (f : ℕ → Fault) (i k n : ℕ) → i ≤ k → k ≤ n
+    → first_from f (n - i) i ≡ or_else (first_from f (k - i) i) (first_from f (n - k) k)
+run-on f i k n l m =
+    let a : n - i ≡ k - i + (n - k) = omega arith in
+    let b : i + (k - i) ≡ k = omega arith in
+    rw a (rw b at (run-split f (k - i) (n - k) i))
+
+pub run-same : (f g : ℕ → Fault) (left i : ℕ) → ((k : ℕ) → i ≤ k → k < i + left → f k ≡ g k)
+    → first_from f left i ≡ first_from g left i
+unfolding first_from
+run-same f g zero i h = refl
+run-same f g (suc left) i h =
+    rw (h i (omega arith) (omega arith), run-same f g left (suc i) (λ k p q. h k (omega arith) (omega arith)))
+
 -- a run without a fault: each of its rules passed
 pub run-passed : (f : ℕ → Fault) (left i : ℕ) → (first_from f left i).number ≡ 0 → (k : ℕ) → i ≤ k → k < i + left → (f k).number ≡ 0
 unfolding first_from
@@ -84,6 +124,109 @@ run-all f (suc left) i h =
     or-next (f i) (first_from f left (suc i)) (h i (omega arith) (omega arith))
     ∙ run-all f left (suc i) (λ k p q. h k (omega arith) (omega arith))
 
+-- the first rule of a run that is broken, where all before it passed
+pub run-first : (f : ℕ → Fault) (n i k : ℕ) → i ≤ k → k < n → ((j : ℕ) → i ≤ j → j < k → (f j).number ≡ 0)
+    → ((f k).number ≡ 0 → ⊥) → first_from f (n - i) i ≡ f k
+run-first f n i k l m p h =
+    let e : i + (k - i) ≡ k = omega arith in
+    let skip = run-skip f n i (k - i) (omega arith) (λ j a b. p j a (omega arith)) in
+    rw e at skip ∙ run-here f n k m h
+
+-- a search answers which rule of a run is the first that is broken, or that none is; and the run's fault is that rule's
+abbrev pub FirstBroken : (ℕ → Fault) → ℕ → ℕ → Option ℕ → Type 0
+FirstBroken f i n r =
+    MatchOption r ((k : ℕ) → i ≤ k → k < n → (f k).number ≡ 0)
+    (λ k. (i ≤ k) × (k < n) × ((f k).number ≡ 0 → ⊥) × ((j : ℕ) → i ≤ j → j < k → (f j).number ≡ 0))
+
+abbrev pub fault_at : (ℕ → Fault) → Option ℕ → Fault
+fault_at f None = none
+fault_at f (Some k) = f k
+
+pub run-found : (f : ℕ → Fault) (i n : ℕ) (r : Option ℕ) → FirstBroken f i n r → first_from f (n - i) i ≡ fault_at f r
+run-found f i n None h = run-all f (n - i) i (λ k l m. h k l (omega arith))
+run-found f i n (Some k) (l, m, z, p) = run-first f n i k l m p z
+
+-- the same of a rule for each task, by a test of its index: what `find` over the indices answers
+module _ (t : ℕ → Bool) (number : ℕ) where
+  abbrev pub task_rule : ℕ → Fault
+  task_rule i = fault_if (t i) (suc number) (suc i)
+
+  rule-broken : (i : ℕ) → t i ≡ true → (task_rule i).number ≡ 0 → ⊥
+  rule-broken i e z = let n : suc number ≡ 0 = rw e at z in omega arith
+
+  abbrev pub FirstTask : ℕ → Option ℕ → Type 0
+  FirstTask n r =
+      MatchOption r (first_from task_rule n 0 ≡ none)
+      (λ i. (i < n) × (first_from task_rule n 0 ≡ fault (suc number) (i + 1)))
+
+  first-task : (n : ℕ) (r : Option ℕ) → FirstBroken task_rule 0 n r → FirstTask n r
+  first-task n None h = let e : n - 0 ≡ n = omega arith in rw e at (run-found task_rule 0 n None h)
+  first-task n (Some i) h =
+      let l : i < n = h.1 in
+      let broken : t i ≡ true = elim (bool (t i)) [ inl e ↦ e | inr e ↦ absurd (h.2 (rw e)) ] in
+      let a : suc i ≡ i + 1 = omega arith in
+      let e : n - 0 ≡ n = omega arith in
+      (l, rw e at (run-found task_rule 0 n (Some i) h) ∙ rw (broken, a))
+
+  pub find-task : {F : Type 0} {g : Mut F (Bor ℕ × Unit {0}) Bool} (n : ℕ) (u : Range ℕ) (p : F) (r : Option ℕ)
+      → (xs : List ℕ) × (j : F) × YieldsThen nat_range_steps (record { start = 0; end = n }) xs r u
+      × FoldsTo (λ p x q. CalledAt g p x false q) p xs j × MatchOption r ⊤ (λ x. (h : F) × CalledAt g j x true h)
+      → ((x : ℕ) (b : Bool) (q : F) → CalledAt g p x b q → (q ≡ p) × (b ≡ t x))
+      → FirstTask n r
+  find-task n u p r ran test =
+      first-task n r
+      (first_from_Range (record { start = 0; end = n }) u p r (λ i. (task_rule i).number ≡ 0 → ⊥)
+      (λ i. (task_rule i).number ≡ 0) ran
+      (λ x q k. rule-broken x (sym (test x true q k).1))
+      (λ x q k. let e = test x false q k in (e.0, rw (← e.1))))
+
+-- and of a rule for each element of a list, by a test of it: what `position` answers
+module _ {A : Type 0} (t : A → Bool) (all : List A) (d : A) where
+  abbrev pub FirstPassing : Option ℕ → Type 0
+  FirstPassing r =
+      MatchOption r (AllWithin (λ x. t x ≡ false) all 0 (length all))
+      (λ k. (k < length all) × HoldsAt (λ x. t x ≡ true) all k × AllWithin (λ x. t x ≡ false) all 0 k)
+
+  pub position-passing : {S A' F : Type 0} {steps : S → Option A' → S → Type 0} {v : A' → A}
+      {g : Mut F (A' × Unit {0}) Bool} {s : S} (u : S) (p : F)
+      (r : Option ℕ)
+      → (xs : List A') × (o : Option A') × (j : F) × YieldsThen steps s xs o u
+      × FoldsTo (λ p x q. Called g p (x, tt) false q) p xs j
+      × MatchOption o (r ≡ None) (λ x. (r ≡ Some (length xs)) × ((h : F) × Called g j (x, tt) true h))
+      → YieldsList steps v s all
+      → ((x : A') (b : Bool) (q : F) → Called g p (x, tt) b q → (q ≡ p) × (b ≡ t (v x)))
+      → FirstPassing r
+  position-passing u p r ran chain test =
+      IsFirst-from_position u p r (λ x. t x ≡ true) (λ x. t x ≡ false) ran chain
+      (λ x q k. sym (test x true q k).1)
+      (λ x q k. let e = test x false q k in (e.0, sym e.1))
+
+  -- where the test tells whether the element's rule is broken
+  module _ (f : ℕ → Fault) (i : ℕ)
+      (pass : (k : ℕ) → k < length all → t (get_or all k d) ≡ false → (f (i + k)).number ≡ 0)
+      (break : (k : ℕ) → k < length all → t (get_or all k d) ≡ true → (f (i + k)).number ≡ 0 → ⊥) where
+    passed-before : (m : ℕ) → m ≤ length all → AllWithin (λ x. t x ≡ false) all 0 m → (k : ℕ) → i ≤ k → k < i + m
+        → (f k).number ≡ 0
+    passed-before m h all k a b =
+        let e : i + (k - i) ≡ k = omega arith in
+        rw e at (pass (k - i) (omega arith) (all (k - i) d (omega arith) (omega arith)))
+
+    pub position-broken : (r : Option ℕ) → FirstPassing r → FirstBroken f i (i + length all) (option_map (λ k. i + k) r)
+    position-broken None h = passed-before (length all) (omega arith) h
+    position-broken (Some k) (l, here, before) =
+        (omega arith, omega arith, break k l (here d), passed-before k (omega arith) before)
+
+-- where it is a task's element
+pub position-task : {A : Type 0} (t : A → Bool) (all : List A) (d : A) (number : ℕ) (r : Option ℕ)
+    → FirstPassing t all d r
+    → FirstTask (λ i. t (get_or all i d)) number (length all) r
+position-task t all d number None h =
+    first-task (λ i. t (get_or all i d)) number (length all) None (λ k l m. rw (h k d l m))
+position-task t all d number (Some k) (l, here, before) =
+    let rule = λ (i : ℕ). t (get_or all i d) in
+    first-task rule number (length all) (Some k)
+    (omega arith, l, rule-broken rule number k (here d), λ j a b. rw (before j d a b))
+
 -- a run with a fault: it is that of one of its rules
 pub run-some : (f : ℕ → Fault) (left i : ℕ) → ((first_from f left i).number ≡ 0 → ⊥) → (k : ℕ) × ((k < i + left) × (first_from f left i ≡ f k))
 unfolding first_from
@@ -94,16 +237,3 @@ run-some f (suc left) i h = elim (eq-or-ne (f i).number 0) [
       let r = run-some f left (suc i) (λ y. h (ap (λ g. g.number) e ∙ y)) in
       (r.0, (omega (arith, r.1.0), e ∙ r.1.1))
 ]
-
--- how large a refusal's number can be
-pub if-le : (b : Bool) (n p k : ℕ) → n ≤ k → (fault_if b n p).number ≤ k
-if-le true n p k h = h
-if-le false n p k h = omega arith
-
-pub or-le : (f g : Fault) (k : ℕ) → f.number ≤ k → g.number ≤ k → (or_else f g).number ≤ k
-or-le f g k a b = elim (eq-or-ne f.number 0) [ inl z ↦ rw (or-next f g z) b | inr z ↦ rw (or-here f g z) a ]
-
-pub run-le : (f : ℕ → Fault) (k : ℕ) → ((i : ℕ) → (f i).number ≤ k) → (left i : ℕ) → (first_from f left i).number ≤ k
-unfolding first_from
-run-le f k h zero i = omega arith
-run-le f k h (suc left) i = or-le (f i) (first_from f left (suc i)) k (h i) (run-le f k h left (suc i))

@@ -1,7 +1,7 @@
 -- The files of the examples P and S, in their canonical form.
 use mathlib.Core.List.{List, [], ◌∷◌, map}
 use Prim.Native.Nat.{ℕ}
-use Rattle.plan.specs.declared.record.Task.{Task}
+use Rattle.plan.specs.declared.tasks.Task.{Task}
 use Rattle.plan.specs.Canonical.{canonical}
 
 -- C, lo, hi, cap, w; no hold and no late

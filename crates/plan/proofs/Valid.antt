@@ -8,7 +8,7 @@ use native.Mathlib.Omega.{arith}
 use lib.Dec.{ltb, leb}
 use lib.ListN.{length, get_or-eq_default}
 use borrow.Author.Tests.{leb-true, ltb-false, not-false}
-use Rattle.plan.specs.declared.record.Task.{Task}
+use Rattle.plan.specs.declared.tasks.Task.{Task}
 use Rattle.plan.specs.Faults.{fault_if}
 use Rattle.plan.specs.Tasks.{max_ticks, max_weight, max_blocking, max_jitter, between, within_limits, Valid, no_task, task_at, AllValid}
 use Rattle.plan.specs.Files.{row_fault}

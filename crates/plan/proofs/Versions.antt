@@ -1,18 +1,18 @@
 -- The versions of the file: how wide their rows are, and which one tasks need.
-use mathlib.Core.Path.{◌≡◌}
-use mathlib.Core.Bool.{true, false}
+use mathlib.Core.Path.{◌≡◌, refl}
+use mathlib.Core.Bool.{true, false, cond}
 use mathlib.Core.Logic.{inl, inr}
 use mathlib.Core.List.{List, [], ◌∷◌}
-use Prim.Native.Nat.{ℕ, zero, suc, ◌+◌, ◌≤◌, ◌<◌}
+use Prim.Native.Nat.{ℕ, zero, suc, ◌≤◌, ◌<◌}
 use native.Mathlib.Omega.{arith}
-use native.Mathlib.Numerals.{add-one}
-use lib.ListN.{length, take, drop, drop_of_length-le}
-use lib.Seq.{drop-cons, length-take-le}
+use lib.ListN.{length, take}
+use lib.Seq.{length-take-le}
 use borrow.Author.Tests.{eq-eqb, ne_eqb}
-use Rattle.plan.specs.declared.record.Task.{Task}
+use Rattle.std.specs.List.{list_all}
+use Rattle.plan.specs.declared.tasks.Task.{Task}
 use Rattle.plan.specs.Layout.{row_numbers, row_size}
-use Rattle.plan.specs.Tasks.{no_task, task_at}
-use Rattle.plan.specs.Table.{row_of}
+use Rattle.plan.specs.Tasks.{task_at}
+use Rattle.plan.specs.Tasks.{row_of}
 use Rattle.plan.specs.Canonical.{is_plain, version_for}
 use Rattle.plan.proofs.Tests.{bool, eq-or-ne}
 
@@ -60,13 +60,10 @@ all_plain (t ∷ ts) v i h = elim (bool (is_plain t)) [
   | inr e ↦ let z : ⊥ = omega (arith, first-not t ts e) in absurd z
 ]
 
--- the first i tasks are plain
-module _ (ts : List Task) (i : ℕ) (l : i < length ts) where
-  pub version-next : is_plain (task_at ts i) ≡ true → version_for (drop i ts) ≡ version_for (drop (i + 1) ts)
-  version-next e = rw (add-one, drop-cons ts i no_task l) (first_plain (task_at ts i) (drop (suc i) ts) e)
-
-  pub version-found : is_plain (task_at ts i) ≡ false → version_for (drop i ts) ≡ 2
-  version-found e = rw (drop-cons ts i no_task l) (first-not (task_at ts i) (drop (suc i) ts) e)
-
-pub version-end : (ts : List Task) (i : ℕ) → length ts ≤ i → version_for (drop i ts) ≡ 1
-version-end ts i l = rw (drop_of_length-le ts l)
+-- it is 1 where every task is plain, else 2
+pub version-is : (ts : List Task) → version_for ts ≡ cond (list_all is_plain ts) 1 2
+version-is [] = refl
+version-is (t ∷ ts) = elim (bool (is_plain t)) [
+  | inl e ↦ rw (first_plain t ts e, e) (version-is ts)
+  | inr e ↦ rw (first-not t ts e, e) refl
+]

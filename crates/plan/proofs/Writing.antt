@@ -10,22 +10,23 @@ use lib.Dec.{eqb}
 use lib.ListN.{length}
 use lib.Seq.{sets, length-sets}
 use borrow.Author.Tests.{eq-eqb, ne_eqb}
-use Rattle.plan.specs.declared.record.Task.{Task}
-use Rattle.plan.specs.declared.reader.Loaded.{Loaded}
-use Rattle.plan.specs.declared.writer.Written.{Written}
-use Rattle.plan.specs.Faults.{fault, none, passed}
-use Rattle.plan.specs.Tasks.{max_tasks}
-use Rattle.plan.specs.Layout.{header_width, row_size, name_width, task_count}
+use Rattle.plan.specs.declared.tasks.Task.{Task}
+use Rattle.plan.specs.Faults.{none, passed}
+use Rattle.std.specs.Prelude.{Ok, Err}
+use Rattle.plan.specs.declared.errors.ReadError.{ReadError}
+use Rattle.plan.specs.declared.errors.WriteError.TheVariants.{Read as Unread, SpaceLength}
+use Rattle.plan.specs.Errors.{read_error_fault}
+use Rattle.plan.specs.Layout.{header_width, row_size, name_width, task_count, names_at}
 use Rattle.plan.specs.Files.{file_fault}
 use Rattle.plan.specs.Files.{accepted, tasks_of, names_of}
 use Rattle.plan.specs.Canonical.{version_for, header_bytes, rows_bytes, names_bytes, rows_to, names_to, canonical, canonical_of}
-use Rattle.plan.specs.Promises.{max_form, written_of, Writes, plan_tasks, Loads, Usable}
-use Rattle.plan.specs.Inner.{HasRows, HasNames, HasPlan}
+use Rattle.plan.specs.Promises.{max_form, Written, written_of, write_answer, Writes}
+use Rattle.plan.specs.Inner.{HasNames}
 use Rattle.plan.proofs.Tests.{bool}
 use Rattle.plan.proofs.Versions.{row-range}
-use Rattle.plan.proofs.Accepted.{accepted-none, accepted-areas, tasks-length, tasks-few}
+use Rattle.plan.proofs.Accepted.{accepted-none, accepted-areas, tasks-length}
 use Rattle.plan.proofs.Canonical.{Formable, rows-length, names-length, form-stored}
-use Rattle.plan.proofs.Loading.{loads-accepted, loads-unaccepted}
+use Rattle.plan.proofs.Loading.{unaccepted}
 use Rattle.plan.proofs.OneForm.{formable, form_of, form-size, one_form}
 
 empty : (l : List ℕ) → length l ≡ 0 → l ≡ []
@@ -50,62 +51,55 @@ writes : (s o : List ℕ) {o' : List ℕ} {r : Written} → r ≡ written_of s (
     → Writes s o o' r
 writes s o a b = record { answer = a; space = b; most = rw a (form-most s); form = one_form s }
 
-module _ (s : List ℕ) (r : Loaded) (l : Loads s r × Usable r) where
-  pub writes-refused : (o : List ℕ) → (r.fault.number ≡ 0 → ⊥) → Writes s o o (record { fault = r.fault; size = 0 })
-  writes-refused o h =
-      let e = loads-unaccepted s r l.0 h in
-      writes s o (rw (e, no-form s e, l.0.fault)) (rw (l.0.fault, e))
-
-  pub has-plan : r.fault.number ≡ 0 → HasPlan s r.names (plan_tasks r.plan)
-  has-plan z = let e = loads-accepted s r l.0 z in record { accepts = e; begins = l.0.names e; tasks = l.0.tasks }
-
-pub plan-few : {s : List ℕ} {names : ℕ} {ts : List Task} → HasPlan s names ts → length ts ≤ max_tasks
-plan-few {s} p = rw p.tasks (tasks-few s)
+-- where the file's own rules refuse it
+pub write_refused : (s o : List ℕ) (e : ReadError) → read_error_fault e ≡ file_fault s
+    → Writes s o o (write_answer (Err (Unread e)))
+write_refused s o e h =
+    let a = unaccepted s e h in
+    writes s o (rw (a, no-form s a, h)) (rw (h, a))
 
 -- what an accepted file's tasks say of its form: the version that they need, how many they are, and how many bytes their rows have
-module _ (s : List ℕ) {names : ℕ} {ts : List Task} (p : HasPlan s names ts)
+module _ (s : List ℕ) (accepts : accepted s ≡ true) {ts : List Task} (tasks : ts ≡ tasks_of s)
     {v n rows : ℕ} (vs : v ≡ version_for ts) (count : n ≡ length ts) (size_of : rows ≡ row_size v * n) where
   counted : n ≡ task_count s
-  counted = count ∙ ap length p.tasks ∙ tasks-length s p.accepts
+  counted = count ∙ ap length tasks ∙ tasks-length s accepts
 
-  abbrev names_at : ℕ
-  names_at = header_width + rows
+  abbrev form_names_at : ℕ
+  form_names_at = header_width + rows
 
   abbrev size : ℕ
-  size = names_at + name_width * n
+  size = form_names_at + name_width * n
 
   size_is : size ≡ length (canonical_of s)
-  size_is = rw (form-size s p.accepts, ← p.tasks, ← vs, ← counted, size_of)
+  size_is = rw (form-size s accepts, ← tasks, ← vs, ← counted, size_of)
 
   -- WRITE's answers where the space has the wrong length, and where the form is written
   module _ (o : List ℕ) where
-    pub writes_nothing : (length o ≡ size → ⊥) → Writes s o o (record { fault = fault 40 0; size = size })
-    writes_nothing h = writes s o (rw (p.accepts, ← size_is, ne_eqb (length o) size h)) refl
+    pub writes_nothing : (length o ≡ size → ⊥) → Writes s o o (write_answer (Err (SpaceLength size)))
+    writes_nothing h = writes s o (rw (accepts, ← size_is, ne_eqb (length o) size h)) refl
 
-    pub has-rows : {headed : List ℕ} → length o ≡ size → headed ≡ sets o 0 (header_bytes v n names_at size) → HasRows v ts headed
-    has-rows {headed} h first =
-        let e = ap length first ∙ length-sets o 0 (header_bytes v n names_at size) in
-        let r : rows ≡ row_size v * length ts = rw (← count) size_of in
-        record { few = plan-few p; fits = omega arith }
-
-    module _ {headed rowed : List ℕ} (h : length o ≡ size) (first : headed ≡ sets o 0 (header_bytes v n names_at size))
+    module _ {headed rowed : List ℕ} (h : length o ≡ size)
+        (first : headed ≡ sets o 0 (header_bytes v n form_names_at size))
         (second : rowed ≡ sets headed header_width (rows_bytes v ts)) where
-      pub has-names : HasNames s names n names_at rowed
-      has-names =
+      pub has-names : {names : ℕ} → names ≡ names_at s → HasNames s names n form_names_at rowed
+      has-names begins =
           let e = ap length second ∙ length-sets headed header_width (rows_bytes v ts) in
-          let f = ap length first ∙ length-sets o 0 (header_bytes v n names_at size) in
-          record { accepts = p.accepts; begins = p.begins; count = counted; fits = omega arith }
+          let f = ap length first ∙ length-sets o 0 (header_bytes v n form_names_at size) in
+          record { accepts = accepts; begins = begins; count = counted; fits = omega arith }
 
-      form-written : sets rowed names_at (names_bytes (names_of s)) ≡ canonical_of s
+      form-written : sets rowed form_names_at (names_bytes (names_of s)) ≡ canonical_of s
       form-written =
           let ns = names_of s in
-          let w : Formable ts ns = rw p.tasks (formable s p.accepts) in
-          let m : names_at ≡ rows_to ts = rw (size_of, vs, count) (sym (ap (λ k. header_width + k) (rows-length (version_for ts) ts))) in
+          let w : Formable ts ns = rw tasks (formable s accepts) in
+          let m : form_names_at ≡ rows_to ts =
+          rw (size_of, vs, count) (sym (ap (λ k. header_width + k) (rows-length (version_for ts) ts))) in
           let k : size ≡ names_to ts ns = omega (arith, m, names-length ns w.names, w.count) in
-          rw (second, first, k, m, count, vs) (form-stored ts ns w o (h ∙ k) ∙ sym (form_of s p.accepts ∙ ap (λ ts. canonical ts ns) (sym p.tasks)))
+          rw (second, first, k, m, count, vs)
+          (form-stored ts ns w o (h ∙ k) ∙ sym (form_of s accepts ∙ ap (λ ts. canonical ts ns) (sym tasks)))
 
-      pub writes-form : {o' : List ℕ} → o' ≡ sets rowed names_at (names_bytes (names_of s)) → Writes s o o' (record { fault = none; size = size })
-      writes-form third = writes s o (rw (p.accepts, ← size_is, eq-eqb (length o) size h)) (third ∙ form-written)
+      pub writes-form : {o' : List ℕ} → o' ≡ sets rowed form_names_at (names_bytes (names_of s))
+          → Writes s o o' (write_answer (Ok size))
+      writes-form third = writes s o (rw (accepts, ← size_is, eq-eqb (length o) size h)) (third ∙ form-written)
 
 -- a space of the form's length: the refusal is the file's own, and the space holds the form
 pub exact-space : {s o o' : List ℕ} {r : Written} → Writes s o o' r → length o ≡ length (canonical_of s)

@@ -1,9 +1,9 @@
 -- The canonical form: "Write any accepted file in one fixed form: rows at 16, names right after, no gaps."
 use Rattle.std.specs.Prelude.{Bool, true, false, ◌&&◌, cond, List, [], ◌∷◌, ◌++◌, map, ℕ, ◌+◌, ◌-◌, eqb, length, take, replicate}
-use Rattle.plan.specs.declared.record.Task.{Task}
+use Rattle.plan.specs.declared.tasks.Task.{Task}
 use Rattle.plan.specs.Lists.{joined}
 use Rattle.plan.specs.Words.{bytes_of, words_of}
-use Rattle.plan.specs.Table.{row_of}
+use Rattle.plan.specs.Tasks.{row_of}
 use Rattle.plan.specs.Layout.{header_width, row_numbers, name_width}
 use Rattle.plan.specs.Files.{accepted, tasks_of, names_of}
 

@@ -2,7 +2,7 @@
 -- accepted file.
 use Rattle.std.specs.Prelude.{Bool, ◌&&◌, not, cond, List, [], ◌∷◌, ℕ, suc, ◌+◌, ◌-◌, ◌*◌, eqb, ltb, length, get_or}
 use Rattle.plan.specs.declared.faults.Fault.{Fault}
-use Rattle.plan.specs.declared.record.Task.{Task}
+use Rattle.plan.specs.declared.tasks.Task.{Task}
 use Rattle.plan.specs.Lists.{tabulate}
 use Rattle.plan.specs.Faults.{fault_if, passed, or_else, first_fault, first_from}
 use Rattle.plan.specs.Tasks.{max_tasks, min_file, max_file, between, within_limits, row_at}

@@ -2,10 +2,10 @@
 -- calls promise.
 pub mod Lists
 pub mod Faults
+pub mod Errors
 pub mod Words
 pub mod Layout
 pub mod Tasks
-pub mod Table
 pub mod Names
 pub mod Files
 pub mod Canonical

@@ -1,18 +1,26 @@
 -- What the public calls promise, of any bytes.
-use Rattle.std.specs.Prelude.{◌≡◌, true, not, cond, List, ℕ, ◌+◌, ◌-◌, ◌*◌, ◌≤◌, ◌<◌, eqb, length, take}
+use Rattle.std.specs.Prelude.{◌≡◌, true, not, cond, List, ℕ, ◌+◌, ◌-◌, ◌≤◌, ◌<◌, eqb, length, Result, Ok, Err}
 use Rattle.plan.specs.declared.faults.Fault.{Fault}
-use Rattle.plan.specs.declared.record.Task.{Task}
+use Rattle.plan.specs.declared.errors.ReadError.{ReadError}
+use Rattle.plan.specs.declared.errors.WriteError.{WriteError}
+use Rattle.plan.specs.declared.errors.WriteError.TheVariants.{Read as Unread, SpaceLength}
+use Rattle.plan.specs.declared.tasks.Task.{Task}
 use Rattle.plan.specs.declared.record.Plan.{Plan}
-use Rattle.plan.specs.declared.reader.Read.{Read}
-use Rattle.plan.specs.declared.reader.Loaded.{Loaded}
-use Rattle.plan.specs.declared.writer.Written.{Written}
-use Rattle.plan.specs.Faults.{fault_if, passed, or_else}
-use Rattle.plan.specs.Tasks.{max_tasks, AllValid}
-use Rattle.plan.specs.Table.{row_fields, tasks_in}
+use Rattle.plan.specs.Faults.{none, fault_if, passed, or_else}
+use Rattle.plan.specs.Errors.{read_error_fault, write_error_fault}
 use Rattle.plan.specs.Layout.{header_width, version, rows_at, rows_end_of, names_at, names_end_of}
 use Rattle.plan.specs.Names.{name_start}
 use Rattle.plan.specs.Files.{file_fault, accepted, tasks_of, names_of, is_named, name_of}
 use Rattle.plan.specs.Canonical.{version_for, canonical_of}
+
+-- READ's answer: the refusal, and the count of tasks of an accepted file
+pub record Read : Type 0 where
+  pub fault : Fault
+  pub tasks : ℕ
+
+abbrev pub read_answer : Result ℕ ReadError → Read
+read_answer (Ok n) = record { fault = none; tasks = n }
+read_answer (Err e) = record { fault = read_error_fault e; tasks = 0 }
 
 -- READ: "the file to n"; "READ's n [is] 0 when refused"
 abbrev pub read_of : List ℕ → Read
@@ -29,7 +37,20 @@ pub record Names (p : ℕ × ℕ) (s : List ℕ) (task : ℕ) (p' : ℕ × ℕ) 
 abbrev pub write_fault : List ℕ → ℕ → Fault
 write_fault s room = or_else (file_fault s) (fault_if (not (eqb room (length (canonical_of s)))) 40 0)
 
--- WRITE's answer: the size is the written length, 0 where the file's own rules refuse it
+-- WRITE's answer: the refusal, and the length of an accepted file's canonical form
+pub record Written : Type 0 where
+  pub fault : Fault
+  pub size : ℕ
+
+abbrev pub size_told : WriteError → ℕ
+size_told (Unread e) = 0
+size_told (SpaceLength size) = size
+
+abbrev pub write_answer : Result ℕ WriteError → Written
+write_answer (Ok size) = record { fault = none; size = size }
+write_answer (Err e) = record { fault = write_error_fault e; size = size_told e }
+
+-- the size is the written length, 0 where the file's own rules refuse it
 abbrev pub written_of : List ℕ → ℕ → Written
 written_of s room = record { fault = write_fault s room; size = length (canonical_of s) }
 
@@ -65,21 +86,12 @@ pub record Writes (s o o' : List ℕ) (r : Written) : Type 0 where
   pub most : r.size ≤ max_form
   pub form : accepted s ≡ true → IsCanonical s (canonical_of s)
 
--- the tasks of a plan record: so many rows at the front of its table
+-- the tasks of a plan record
 abbrev pub plan_tasks : Plan → List Task
-plan_tasks p = tasks_in (take (row_fields * p.tasks) p.table)
+plan_tasks p = p.tasks.items
 
--- a plan loaded, for the layers above: the refusal, the file's tasks, and where its names are
-pub record Loads (s : List ℕ) (r : Loaded) : Type 0 where
-  pub fault : r.fault ≡ file_fault s
-  pub tasks : plan_tasks r.plan ≡ tasks_of s
-  pub names : accepted s ≡ true → r.names ≡ names_at s
-
--- what those layers may count on: a number of the file's own rules, valid tasks, as many as the record says, and some
--- where no rule is broken
-pub record Usable (r : Loaded) : Type 0 where
-  pub numbered : r.fault.number ≤ 11
-  pub count : r.plan.tasks ≡ length (plan_tasks r.plan)
-  pub few : r.plan.tasks ≤ max_tasks
-  pub some : r.fault.number ≡ 0 → 1 ≤ r.plan.tasks
-  pub valid : AllValid (plan_tasks r.plan)
+-- a plan loaded, for the layers above: the tasks of an accepted file, and where its names are
+pub record Loads (s : List ℕ) (p : Plan) : Type 0 where
+  pub accepts : accepted s ≡ true
+  pub tasks : plan_tasks p ≡ tasks_of s
+  pub names : p.names ≡ names_at s

@@ -1,6 +1,6 @@
 -- Tasks (in plan files: jobs) and their limits. "The limits belong to the plan record itself": constants of `Plan`.
-use Rattle.std.specs.Prelude.{Bool, ◌&&◌, cond, List, map, ℕ, ◌+◌, ◌≤◌, ◌<◌, eqb, leb, length, get_or}
-use Rattle.plan.specs.declared.record.Task.{Task}
+use Rattle.std.specs.Prelude.{Bool, ◌&&◌, cond, List, [], ◌∷◌, map, ℕ, ◌+◌, ◌≤◌, ◌<◌, eqb, leb, length, get_or}
+use Rattle.plan.specs.declared.tasks.Task.{Task}
 use Rattle.plan.specs.Words.{word}
 use Rattle.plan.specs.Layout.{version}
 
@@ -53,6 +53,15 @@ row_at s at = record {
   blocking = further_field s (at + 20);
   jitter = further_field s (at + 24);
 }
+
+-- its fields in the order of a row
+abbrev pub row_fields : ℕ
+row_fields = 7
+
+abbrev pub row_of : Task → List ℕ
+row_of t =
+    t.wcet ∷ t.period_min ∷ t.period_max ∷ t.deadline_cap ∷ t.weight
+    ∷ t.blocking ∷ t.jitter ∷ []
 
 -- a task that the rules 8 and 9 let pass
 pub record Valid (t : Task) : Type 0 where

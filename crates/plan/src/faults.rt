@@ -1,8 +1,8 @@
 ghost use Rattle.std.specs.Prelude.{◌≡◌};
 ghost use Rattle.plan.specs.Faults.{none};
 
-// A refusal: the number of the rule that is broken and its place; number 0 is no refusal.
-#[derive(Clone, Copy)]
+// A refusal as it goes out: the number of the rule that is broken and its place; number 0 is no refusal.
+#[derive(Clone, Copy, Debug, PartialEq, Eq)]
 pub struct Fault {
     pub number: u32,
     pub place: u32,

@@ -1,131 +1,80 @@
-ghost use Rattle.std.specs.Prelude.{◌≡◌, ◌+◌};
-ghost use Rattle.plan.specs.Promises.{read_of, Names, Loads, Usable};
-ghost use Rattle.plan.specs.Inner.{AreasOf, Refuses, Decodes, NameAt};
+ghost use Rattle.std.specs.Prelude.{◌≡◌, ◌+◌, IfOk};
+ghost use Rattle.plan.specs.Errors.{read_fault};
+ghost use Rattle.plan.specs.Files.{file_fault};
+ghost use Rattle.plan.specs.Promises.{read_of, read_answer, Names, Loads};
+ghost use Rattle.plan.specs.Inner.{NameAt};
 
-use super::faults::Fault;
-use super::layout::{Areas, Layout, NAME_WIDTH, layout_fault, layout_of, stray_byte};
-use super::names::{name_length, name_ok, repeated_name};
+use super::errors::ReadError;
+use super::layout::layout_of;
+use super::located::Located;
+use super::names::{name_field, name_length, name_ok};
 use super::record::Plan;
-use super::rows::{Row, row_at, row_fault};
-use super::table::write_row;
-use super::words::between;
+use super::tasks::Task;
+use arrayvec::ArrayVec;
 
-// READ's answer: the refusal, and the count of tasks of an accepted file.
-#[derive(Drop)]
-pub struct Read {
-    pub fault: Fault,
-    pub tasks: u32,
-}
+impl Located<'_> {
+    ghost use Rattle.plan.specs.Files.{tasks_fault};
+    ghost use Rattle.plan.specs.Inner.{Decodes};
 
-// A plan and the offset of its names, or the refusal of its file with a plan of no task.
-#[derive(Clone, Copy)]
-pub struct Loaded {
-    pub fault: Fault,
-    pub plan: Plan,
-    pub names: usize,
-}
-
-impl Loaded {
-    fn refused(fault: Fault) -> Loaded
-        ensures { Refuses fault result }
+    // Rules 8 to 10, task by task. A row that cannot be read is taken apart by let .. else, as the requirement has it.
+    fn decode_tasks(&self) -> Result<ArrayVec<Task, { Plan::MAX_TASKS }>, ReadError>
+        ensures refuses { read_fault result ≡ tasks_fault self.now.file.now }
+        ensures decodes { IfOk result (λ tasks. Decodes self.now.file.now tasks.items) }
     {
-        Loaded {
-            fault,
-            plan: Plan::new(0, [0; Plan::TABLE]),
-            names: 0,
+        let mut tasks = ArrayVec::new();
+        for i in 0..self.areas.tasks {
+            let row = self.row(i);
+            let Ok(task) = row else {
+                return Err(row.unwrap_err());
+            };
+            if !name_ok(self.name_field(i)) {
+                return Err(ReadError::BadName((i + 1) as u32));
+            }
+            tasks.push(task);
         }
-    }
-}
-
-// Rules 8 to 10, task by task.
-fn decode_tasks(file: &[u8], areas: Areas) -> Loaded
-    requires { AreasOf file.now areas }
-    ensures { Decodes file.now result }
-{
-    let n = areas.tasks;
-    let names = areas.names;
-    let mut table = [0u32; Plan::TABLE];
-    let mut i: usize = 0;
-    while i < n {
-        let row = row_at(file, areas.rows + areas.row_width * i, areas.version, i);
-        let Row::Decoded(task) = row else {
-            return Loaded::refused(row_fault(row));
-        };
-        if !name_ok(file, names + NAME_WIDTH * i) {
-            return Loaded::refused(Fault {
-                number: 10,
-                place: (i + 1) as u32,
-            });
-        }
-        let at = Plan::ROW_FIELDS * i;
-        let end = at + Plan::ROW_FIELDS;
-        write_row(&mut table[at..end], task);
-        i += 1;
-    }
-    Loaded {
-        fault: Fault::none(),
-        plan: Plan::new(n, table),
-        names,
+        Ok(tasks)
     }
 }
 
 // The plan of a file, or its refusal by rules 1 to 11.
-pub fn load_plan(file: &[u8]) -> Loaded
-    ensures loads { Loads file.now result }
-    ensures usable { Usable result }
+pub fn load_plan(file: &[u8]) -> Result<Plan, ReadError>
+    ensures refuses { read_fault result ≡ file_fault file.now }
+    ensures loads { IfOk result (λ plan. Loads file.now plan) }
 {
-    let layout = layout_of(file);
-    let Layout::Located(areas) = layout else {
-        return Loaded::refused(layout_fault(layout));
-    };
-    let stray = stray_byte(file, areas);
-    if stray.number != 0 {
-        return Loaded::refused(stray);
-    }
-    let decoded = decode_tasks(file, areas);
-    if decoded.fault.number != 0 {
-        return decoded;
-    }
-    let repeated = repeated_name(file, areas);
-    if repeated.number != 0 {
-        return Loaded::refused(repeated);
-    }
-    decoded
+    let located = layout_of(file)?;
+    located.check_gaps()?;
+    let tasks = located.decode_tasks()?;
+    located.check_same_names()?;
+    Ok(Plan::new(tasks, located.areas.names.start))
 }
 
 // READ: how many tasks a file has, or its refusal.
-pub fn read_plan(file: &[u8]) -> Read
-    ensures { result ≡ read_of file.now }
+pub fn read_plan(file: &[u8]) -> Result<u32, ReadError>
+    ensures { read_answer result ≡ read_of file.now }
 {
-    let loaded = load_plan(file);
-    let fault = loaded.fault;
-    Read {
-        fault,
-        tasks: loaded.plan.tasks as u32,
-    }
+    let plan = load_plan(file)?;
+    Ok(plan.tasks.len() as u32)
 }
 
 // The name of task i, counted from 0, of an accepted file whose names begin at an offset.
-pub fn name_at<'a>(file: &'a [u8], names: usize, i: usize) -> &'a [u8]
+pub fn name_at(file: &[u8], names: usize, i: usize) -> &[u8]
     requires { NameAt file.now names i }
     ensures { Names file.entry.ref_ptr file.now (i + 1) result.ref_ptr result.now }
 {
-    let at = names + NAME_WIDTH * i;
-    let end = at + name_length(file, at);
-    &file[at..end]
+    let field = name_field(file, names, i);
+    &field[..name_length(field)]
 }
 
-// NAME: a task's name, counted from 1, as the part of the file that holds it; the empty part at its start where there
-// is none.
-pub fn task_name<'a>(file: &'a [u8], task: u32) -> &'a [u8]
+// NAME: a task's name, counted from 1, as the part of the file that holds it; the empty part at its start, which is the
+// requirement's form of none, where there is none.
+pub fn task_name(file: &[u8], task: u32) -> &[u8]
     ensures { Names file.entry.ref_ptr file.now task result.ref_ptr result.now }
 {
-    let loaded = load_plan(file);
-    if loaded.fault.number != 0 {
+    let Ok(plan) = load_plan(file) else {
+        return &file[..0];
+    };
+    if !(1..=plan.tasks.len()).contains(&(task as usize)) {
         return &file[..0];
     }
-    if !between(1, task, loaded.plan.tasks as u32) {
-        return &file[..0];
-    }
-    name_at(file, loaded.names, task as usize - 1)
+    name_at(file, plan.names, task as usize - 1)
 }

@@ -1,26 +1,21 @@
-ghost use Rattle.std.specs.Prelude.{◌≡◌};
-ghost use Rattle.plan.specs.Tasks.{within_limits};
+ghost use Rattle.std.specs.Prelude.{◌≡◌, ◌≤◌, length};
+ghost use Rattle.std.specs.List.{AllZip};
+ghost use Rattle.plan.specs.Tasks.{max_tasks, AllValid};
 
-use super::words::between;
+use super::tasks::Task;
+use arrayvec::ArrayVec;
 
-// A task, as its row of the file has it; times in ticks.
-#[derive(Clone, Copy)]
-pub struct Task {
-    pub wcet: u32,
-    pub period_min: u32,
-    pub period_max: u32,
-    pub deadline_cap: u32,
-    pub weight: u32,
-    pub blocking: u32,
-    pub jitter: u32,
-}
+// One number for each task, as the periods of an assignment.
+pub type PerTask = ArrayVec<u32, { Plan::MAX_TASKS }>;
 
-// A plan: how many tasks, and their table of rows, highest priority first; the inner functions of the later layers are
-// lent the rows.
-#[derive(Clone, Copy)]
+// A plan that its file's rules let pass: the tasks, highest priority first, and the offset of their names in the file.
+#[derive(Drop)]
 pub struct Plan {
-    pub tasks: usize,
-    pub table: [u32; Plan::TABLE],
+    pub tasks: ArrayVec<Task, { Plan::MAX_TASKS }>,
+    pub names: usize,
+    ghost some: { 1 ≤ length tasks.items },
+    ghost few: { length tasks.items ≤ max_tasks },
+    ghost valid: { AllValid tasks.items },
 }
 
 impl Plan {
@@ -35,7 +30,7 @@ impl Plan {
     pub const MAX_JITTER: u32 = 1_000_000;
 
     // Versions of the file, from 1 on.
-    pub const MAX_VERSION: u32 = 2;
+    pub const MAX_VERSION: u16 = 2;
 
     pub const MIN_FILE: usize = 16;
 
@@ -44,55 +39,24 @@ impl Plan {
     // The longest canonical form: sixteen tasks in version 2.
     pub const MAX_FORM: usize = 720;
 
-    // The fields of a row, how many, and the numbers of a table.
-    pub const WCET: usize = 0;
-
-    pub const PERIOD_MIN: usize = 1;
-
-    pub const PERIOD_MAX: usize = 2;
-
-    pub const DEADLINE_CAP: usize = 3;
-
-    pub const WEIGHT: usize = 4;
-
-    pub const BLOCKING: usize = 5;
-
-    pub const JITTER: usize = 6;
-
-    pub const ROW_FIELDS: usize = 7;
-
-    pub const TABLE: usize = Plan::MAX_TASKS * Plan::ROW_FIELDS;
-
-    // The first tasks of a table.
-    pub fn new(tasks: usize, table: [u32; Plan::TABLE]) -> Plan
-        ensures { result ≡ record { tasks = tasks; table = table } }
+    pub fn new(tasks: ArrayVec<Task, { Plan::MAX_TASKS }>, names: usize) -> Plan
+        requires some { 1 ≤ length tasks.items }
+        requires valid { AllValid tasks.items }
+        ensures tasks { result.tasks ≡ tasks }
+        ensures names { result.names ≡ names }
     {
-        Plan { tasks, table }
+        Plan { tasks, names }
     }
-}
 
-impl Task {
-    pub fn within_limits(self) -> bool
-        ensures { result ≡ within_limits self }
+    // A number of each task.
+    pub fn column<F: Fn(Task) -> u32>(&self, number: F) -> PerTask
+        requires { F.IsAlwaysCallable number }
+        ensures { AllZip (F.post number) self.now.tasks.items result.items }
     {
-        if !between(1, self.wcet, Plan::MAX_TICKS) {
-            return false;
+        let mut column = PerTask::new();
+        for task in self.tasks.iter() {
+            column.push(number(*task));
         }
-        if !between(1, self.period_min, Plan::MAX_TICKS) {
-            return false;
-        }
-        if !between(1, self.period_max, Plan::MAX_TICKS) {
-            return false;
-        }
-        if !between(1, self.deadline_cap, Plan::MAX_TICKS) {
-            return false;
-        }
-        if Plan::MAX_WEIGHT < self.weight {
-            return false;
-        }
-        if Plan::MAX_BLOCKING < self.blocking {
-            return false;
-        }
-        self.jitter <= Plan::MAX_JITTER
+        column
     }
 }

@@ -1,40 +1,32 @@
-ghost use Rattle.std.specs.Prelude.{◌≡◌, ◌<◌};
+ghost use Rattle.std.specs.Prelude.{◌≡◌, ◌<◌, IfOk};
 ghost use Rattle.plan.specs.Tasks.{further_field, row_at, max_tasks};
-ghost use Rattle.plan.specs.Inner.{decoded, fault_of_row, FurtherAt, RowAt};
+ghost use Rattle.plan.specs.Files.{row_fault};
+ghost use Rattle.plan.specs.Errors.{read_fault};
+ghost use Rattle.plan.specs.Inner.{FurtherAt, RowAt};
 
-use super::faults::Fault;
-use super::record::Task;
+use super::errors::ReadError;
+use super::located::Located;
+use super::tasks::Task;
 use super::words::word4_at;
 
-// What a row of the file holds: a task, or its refusal.
-#[derive(Clone, Copy)]
-pub enum Row {
-    Decoded(Task),
-    Refused(Fault),
-}
-
 // Rules 8 and 9 of task i.
-fn checked(t: Task, i: usize) -> Row
+fn checked(task: Task, i: usize) -> Result<Task, ReadError>
     requires { i < max_tasks }
-    ensures { result ≡ decoded t i }
+    ensures refuses { read_fault result ≡ row_fault task i }
+    ensures same { IfOk result (λ t. t ≡ task) }
 {
-    if !t.within_limits() {
-        return Row::Refused(Fault {
-            number: 8,
-            place: (i + 1) as u32,
-        });
+    let place = (i + 1) as u32;
+    if !task.within_limits() {
+        return Err(ReadError::OutsideLimits(place));
     }
-    if t.period_max < t.period_min {
-        return Row::Refused(Fault {
-            number: 9,
-            place: (i + 1) as u32,
-        });
+    if task.period_max < task.period_min {
+        return Err(ReadError::PeriodsReversed(place));
     }
-    Row::Decoded(t)
+    Ok(task)
 }
 
 // A field that rows of version 1 do not have: 0 there.
-fn further_field(file: &[u8], at: usize, version: u32) -> u32
+fn further_field(file: &[u8], at: usize, version: u16) -> u32
     requires { FurtherAt file.now at version }
     ensures { result ≡ further_field file.now at }
 {
@@ -42,9 +34,10 @@ fn further_field(file: &[u8], at: usize, version: u32) -> u32
 }
 
 // The row of task i, of a file of a version.
-pub fn row_at(file: &[u8], at: usize, version: u32, i: usize) -> Row
+fn row_at(file: &[u8], at: usize, version: u16, i: usize) -> Result<Task, ReadError>
     requires { RowAt file.now at version i }
-    ensures { result ≡ decoded (row_at file.now at) i }
+    ensures refuses { read_fault result ≡ row_fault (row_at file.now at) i }
+    ensures decodes { IfOk result (λ t. t ≡ row_at file.now at) }
 {
     let task = Task {
         wcet: word4_at(file, at),
@@ -58,11 +51,17 @@ pub fn row_at(file: &[u8], at: usize, version: u32, i: usize) -> Row
     checked(task, i)
 }
 
-pub fn row_fault(r: Row) -> Fault
-    ensures { result ≡ fault_of_row r }
-{
-    match r {
-        Row::Decoded(_) => Fault::none(),
-        Row::Refused(f) => f,
+impl Located<'_> {
+    ghost use Rattle.plan.specs.Files.{task_of};
+
+    // The row of task i, counted from 0, by rules 8 and 9.
+    pub fn row(&self, i: usize) -> Result<Task, ReadError>
+        requires { i < self.now.areas.tasks }
+        ensures refuses { read_fault result ≡ row_fault (task_of self.now.file.now i) i }
+        ensures decodes { IfOk result (λ t. t ≡ task_of self.now.file.now i) }
+    {
+        let areas = &self.areas;
+        let at = areas.rows.start + areas.row_width * i;
+        row_at(self.file, at, areas.version, i)
     }
 }

@@ -1,48 +1,29 @@
 ghost use Rattle.std.specs.Prelude.{◌≡◌, ◌+◌, ◌*◌, ◌≤◌, length};
-ghost use Rattle.plan.specs.Tasks.{between};
-ghost use Rattle.plan.specs.Words.{word, bytes_of, words_of};
+ghost use Rattle.plan.specs.Words.{word, words_of};
 ghost use Rattle.std.proofs.lemmas.List.Edits.{sets};
 
-// A byte as a number.
-pub fn byte(b: u8) -> u32
-    ensures { (result ≡ b) × (result ≤ 255) }
-{
-    b as u32
-}
-
-// A number, 64 bits wide.
-pub fn wide(x: u32) -> u64
-    ensures { result ≡ x }
-{
-    x as u64
-}
-
-pub fn word2_at(s: &[u8], at: usize) -> u32
+// The little-endian number in 2 bytes from an offset on; in 4 bytes below: one function a width, as the library has
+// one `from_le_bytes` a type.
+pub fn word2_at(s: &[u8], at: usize) -> u16
     requires { at + 2 ≤ length s.now }
-    ensures { (result ≡ word s.now at 2) × (result ≤ 65535) }
+    ensures { result ≡ word s.now at 2 }
 {
-    byte(s[at]) + 256 * byte(s[at + 1])
+    u16::from_le_bytes([s[at], s[at + 1]])
 }
 
 pub fn word4_at(s: &[u8], at: usize) -> u32
     requires { at + 4 ≤ length s.now }
     ensures { result ≡ word s.now at 4 }
 {
-    word2_at(s, at) + 65536 * word2_at(s, at + 2)
+    u32::from_le_bytes([s[at], s[at + 1], s[at + 2], s[at + 3]])
 }
 
-// Writes a number in `width` bytes from an offset on.
-pub fn put_word(out: &mut [u8], at: usize, width: usize, value: u64)
-    requires { at + width ≤ length out.old }
-    ensures { out.new ≡ sets out.old at (bytes_of width value) }
+// Writes bytes from an offset on.
+pub fn put_bytes(out: &mut [u8], at: usize, bytes: &[u8])
+    requires { at + length bytes.now ≤ length out.old }
+    ensures { out.new ≡ sets out.old at bytes.now }
 {
-    let mut rest = value;
-    let mut i: usize = 0;
-    while i < width {
-        out[at + i] = (rest % 256) as u8;
-        rest = rest / 256;
-        i += 1;
-    }
+    out[at..at + bytes.len()].copy_from_slice(bytes);
 }
 
 // Writes numbers in 4 bytes each from an offset on.
@@ -50,15 +31,7 @@ pub fn put_words(out: &mut [u8], at: usize, numbers: &[u32])
     requires { at + 4 * length numbers.now ≤ length out.old }
     ensures { out.new ≡ sets out.old at (words_of numbers.now) }
 {
-    let mut i: usize = 0;
-    while i < numbers.len() {
-        put_word(out, at + 4 * i, 4, wide(numbers[i]));
-        i += 1;
+    for (i, number) in numbers.iter().enumerate() {
+        put_bytes(out, at + 4 * i, &number.to_le_bytes());
     }
-}
-
-pub fn between(low: u32, x: u32, high: u32) -> bool
-    ensures { result ≡ between low x high }
-{
-    if low <= x { x <= high } else { false }
 }

@@ -5,7 +5,7 @@ use mathlib.Core.List.{List, [], ◌∷◌}
 use Prim.Native.Nat.{ℕ, suc, ◌≤◌}
 use native.Mathlib.Omega.{arith}
 use lib.ListN.{length, get_or, set, length-set, length-map}
-use Rattle.plan.specs.declared.record.Task.{Task}
+use Rattle.plan.specs.declared.tasks.Task.{Task}
 use Rattle.plan.specs.Tasks.{between, period_mins, period_maxs}
 use Rattle.plan.proofs.Tests.{and_left, and_right, and_both, between_le, le-between}
 use Rattle.response.specs.Assignments.{dominates, within_bounds}

@@ -1,17 +1,18 @@
 -- The climb up to a limit, one law a step; and what it comes to: the response is the least t that covers.
-use mathlib.Core.Path.{◌≡◌, refl}
+use mathlib.Core.Path.{◌≡◌, refl, ap, ◌∙◌}
 use mathlib.Core.Logic.{inl, inr}
 use mathlib.Core.List.{List}
 use Prim.Native.Nat.{ℕ, zero, suc, ◌+◌, ◌≤◌, ◌<◌}
 use native.Mathlib.Omega.{arith}
 use lib.ListN.{length}
 use borrow.Author.Tests.{lt-ltb, le-ltb, le-leb, lt-leb}
-use Rattle.plan.specs.declared.record.Task.{Task}
+use Rattle.std.specs.Prelude.{Some, None}
+use Rattle.plan.specs.declared.tasks.Task.{Task}
 use Rattle.plan.specs.Tasks.{max_ticks, max_blocking, task_at, AllValid}
 use Rattle.plan.proofs.Tests.{le-or-lt}
 use Rattle.response.specs.Analysis.{own_demand, demand, climb_from, response_up_to}
 use Rattle.response.specs.Claims.{Covers, IsResponse}
-use Rattle.response.specs.Inner.{Begins}
+use Rattle.response.specs.Inner.{Begins, some_time}
 use Rattle.response.proofs.Demand.{demand-monotone, demand_own}
 
 -- a valid task has work to do
@@ -78,21 +79,27 @@ module _ (limit : ℕ) (ts : List Task) (xs : List ℕ) (i : ℕ) where
   pub own-begins : 1 ≤ own_demand (task_at ts i) → Begins limit ts xs i (own_demand (task_at ts i))
   own-begins h = record { some = h; below = λ s c. omega (arith, c.covers, demand_own ts xs i s) }
 
+-- a response time that is not 0
+pub some-time : (t : ℕ) → 1 ≤ t → Some t ≡ some_time t
+some-time zero h = absurd (let z : ⊥ = omega arith in z)
+some-time (suc t) h = refl
+
 -- one turn of a climb that stands at t: it is past the limit, or stops, or goes on from the demand m by t
 module _ {limit : ℕ} {ts : List Task} {xs : List ℕ} {i : ℕ} (w : 1 ≤ own_demand (task_at ts i)) where
-  pub past : {t : ℕ} → Begins limit ts xs i t → limit < t → 0 ≡ response_up_to limit ts xs i
+  pub past : {t : ℕ} → Begins limit ts xs i t → limit < t → None ≡ some_time (response_up_to limit ts xs i)
   past b h = elim (le-or-lt 1 (response_up_to limit ts xs i)) [
     | inl l ↦ let c = (response-exact limit ts xs i w).covers l in
         absurd (omega (arith, c.early, b.below (response_up_to limit ts xs i) c))
-    | inr l ↦ omega arith
+    | inr l ↦ let e : 0 ≡ response_up_to limit ts xs i = omega arith in ap some_time e
   ]
 
   module _ {t m : ℕ} (b : Begins limit ts xs i t) (e : m ≡ demand ts xs i t) where
-    pub stops : t ≤ limit → m ≤ t → t ≡ response_up_to limit ts xs i
+    pub stops : t ≤ limit → m ≤ t → Some t ≡ some_time (response_up_to limit ts xs i)
     stops d h =
         let x = response-exact limit ts xs i w in
         let l = x.least t (record { some = b.some; early = d; covers = omega arith }) in
-        omega (arith, l.1, b.below (response_up_to limit ts xs i) (x.covers l.0))
+        let e : t ≡ response_up_to limit ts xs i = omega (arith, l.1, b.below (response_up_to limit ts xs i) (x.covers l.0)) in
+        some-time t b.some ∙ ap some_time e
 
     pub goes_on : t < m → Begins limit ts xs i m
     goes_on h = record { some = omega arith; below = λ s c. omega (arith, c.covers, demand-monotone ts xs i t s (b.below s c)) }

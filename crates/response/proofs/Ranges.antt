@@ -5,7 +5,7 @@ use mathlib.Core.List.{List}
 use Prim.Native.Nat.{ℕ, ◌≤◌, ◌<◌}
 use native.Mathlib.Omega.{arith}
 use lib.ListN.{length, get_or, get_or-map}
-use Rattle.plan.specs.declared.record.Task.{Task}
+use Rattle.plan.specs.declared.tasks.Task.{Task}
 use Rattle.plan.specs.Tasks.{max_tasks, max_weight, no_task, task_at, AllValid, period_mins, period_maxs, weights}
 use Rattle.plan.proofs.Valid.{valid-at}
 use Rattle.response.specs.Analysis.{schedulable}

@@ -9,19 +9,18 @@ use lib.Dec.{eqb}
 use lib.ListN.{length, get_or, get_or-eq_default}
 use borrow.Author.Tests.{eqb-true, eq-eqb, ne_eqb, not-false}
 use Rattle.plan.specs.declared.faults.Fault.{Fault}
-use Rattle.plan.specs.declared.record.Task.{Task}
+use Rattle.plan.specs.declared.tasks.Task.{Task}
 use Rattle.plan.specs.Faults.{fault, first_fault}
 use Rattle.plan.specs.Tasks.{between, no_task, task_at, AllValid}
-use Rattle.plan.proofs.Tests.{le-or-lt, eq-or-ne, both, between_le}
+use Rattle.plan.proofs.Tests.{le-or-lt, eq-or-ne, between_le}
 use Rattle.plan.proofs.Rules.{or-next, or-here, or-first, or-second, if-passed, run-passed, run_none}
-use Rattle.response.specs.declared.times.Times.{Times}
 use Rattle.response.specs.Analysis.{deadline_at, response_times}
 use Rattle.response.specs.Promises.{period_count_fault, space_fault, bound_fault, bounds_fault, periods_fault, times_fault}
-use Rattle.response.specs.Promises.{refused_times, answer_times, Analyses}
+use Rattle.response.specs.Promises.{TimesAnswer, answer_times, Analyses}
 use Rattle.response.proofs.Bounds.{Within}
 use Rattle.response.proofs.Exactness.{own-some, response-exact}
-use Rattle.response.proofs.Ranges.{min-at, max-at}
-use Rattle.response.proofs.Answers.{times-at}
+use Rattle.response.proofs.Ranges.{min-at, max-at, limits-within}
+use Rattle.response.proofs.Answers.{times-length, times-at}
 
 -- rules 21 to 23 of a count of tasks, by the first of them that may be broken
 module _ (ts : List Task) (xs : List ℕ) (space : ℕ) {count : ℕ} (k : count ≡ length ts) where
@@ -41,6 +40,8 @@ module _ (ts : List Task) (xs : List ℕ) (space : ℕ) {count : ℕ} (k : count
           | inl z ↦ run_none (bound_fault ts xs) (length ts) 0 z ∙ sym (or-next (bounds_fault ts xs) _ z)
           | inr z ↦ sym (or-here (bounds_fault ts xs) _ z)
         ])
+
+pub ruleset rules_in_order = (length-broken, space-broken, bounds-left)
 
 -- no period outside its bounds
 bounds-within : (ts : List Task) (xs : List ℕ) → length xs ≡ length ts → (bounds_fault ts xs).number ≡ 0 → Within ts xs
@@ -77,28 +78,19 @@ passed-periods ts xs space e =
       sized = eqb-true _ _ (not-false (eqb space (length ts)) (if-passed (not (eqb space (length ts))) 21 0 s));
     }
 
-module _ {f : Fault} {ts : List Task} {xs o : List ℕ} {r : Times} where
-  refused : {g : Fault} → times_fault f ts xs (length o) ≡ g → (g.number ≡ 0 → ⊥) → r ≡ refused_times g → Analyses f ts xs o o r
-  refused {g} e h is =
-      let b = ne_eqb g.number 0 h in
-      record { answer = rw (e, b) is; times = rw (e, b); exact = λ t i l. absurd (both (rw e at t) b) }
+-- what a call whose rules were passed owes its inner calls
+pub ruleset passed_rules = (passed-periods, limits-within, times-length)
 
-  -- the file's rule that is broken
-  pub refused-file : (f.number ≡ 0 → ⊥) → r ≡ refused_times f → Analyses f ts xs o o r
-  refused-file h is = refused (or-here f _ h) h is
-
-  module _ (a : f.number ≡ 0) {g : Fault} (e : g ≡ periods_fault ts xs (length o)) where
-    pub refused-periods : (g.number ≡ 0 → ⊥) → r ≡ refused_times g → Analyses f ts xs o o r
-    refused-periods h is = refused (or-next f _ a ∙ sym e) h is
-
-    pub analysed : {o' : List ℕ} → AllValid ts → g.number ≡ 0 → o' ≡ response_times ts xs → r ≡ answer_times o'
-        → Analyses f ts xs o o' r
-    analysed {o'} v z w is =
-        let p = or-next f _ a ∙ sym e in
-        let t = eq-eqb g.number 0 z in
-        rw w
-        (record {
-          answer = rw (p, t, ← w) is;
-          times = rw (p, t);
-          exact = λ _ i l. rw (times-at ts xs i l) (response-exact (deadline_at ts xs i) ts xs i (own-some ts v i l));
-        })
+-- its answer
+pub analysed : {f : Fault} {ts : List Task} {xs o o' : List ℕ} {r : TimesAnswer} → f.number ≡ 0
+    → {g : Fault} → g ≡ periods_fault ts xs (length o) → AllValid ts → g.number ≡ 0 → o' ≡ response_times ts xs → r ≡ answer_times o'
+    → Analyses f ts xs o o' r
+analysed {f} {ts} {xs} {o} a {g} e v z w is =
+    let p : times_fault f ts xs (length o) ≡ g = or-next f _ a ∙ sym e in
+    let t = eq-eqb g.number 0 z in
+    rw w
+    (record {
+      answer = rw (p, t, ← w) is;
+      times = rw (p, t);
+      exact = λ _ i l. rw (times-at ts xs i l) (response-exact (deadline_at ts xs i) ts xs i (own-some ts v i l));
+    })

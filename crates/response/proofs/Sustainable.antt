@@ -9,7 +9,7 @@ use lib.Dec.{ltb, leb}
 use lib.ListN.{length, get_or, set}
 use lib.Seq.{get_or-set_other}
 use borrow.Author.Tests.{leb-true, le-leb}
-use Rattle.plan.specs.declared.record.Task.{Task}
+use Rattle.plan.specs.declared.tasks.Task.{Task}
 use Rattle.plan.specs.Tasks.{task_at, AllValid}
 use Rattle.plan.proofs.Tests.{le-or-lt, eq-or-ne, both, not-false, and_left, and_right, and_both}
 use Rattle.response.specs.Analysis.{own_demand, demand, deadline, deadline_at, climb_from, response_up_to, response_time}

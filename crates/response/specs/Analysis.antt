@@ -1,6 +1,6 @@
 -- The exact test of Lehoczky, Sha and Ding. Task i is counted from 0, the highest priority first.
 use Rattle.std.specs.Prelude.{Bool, true, false, ◌&&◌, cond, List, [], ◌∷◌, ℕ, zero, suc, ◌+◌, ◌*◌, ◌/◌, min, eqb, ltb, leb, length, get_or}
-use Rattle.plan.specs.declared.record.Task.{Task}
+use Rattle.plan.specs.declared.tasks.Task.{Task}
 use Rattle.plan.specs.Lists.{tabulate}
 use Rattle.plan.specs.Tasks.{task_at}
 

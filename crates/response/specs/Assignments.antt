@@ -1,6 +1,6 @@
 -- Period assignments (the requirement's points): cost, order, dominance, bounds.
 use Rattle.std.specs.Prelude.{Bool, true, false, ◌&&◌, ◌||◌, List, [], ◌∷◌, ℕ, suc, ◌+◌, ◌-◌, ◌*◌, eqb, ltb, leb}
-use Rattle.plan.specs.declared.record.Task.{Task}
+use Rattle.plan.specs.declared.tasks.Task.{Task}
 use Rattle.plan.specs.Tasks.{between}
 
 -- "Its cost is the sum of w_i × x_i."

@@ -2,7 +2,7 @@
 -- and its cap, covering its own work plus, for each job above it, that job's work times (t over its period, rounded
 -- up)."
 use Rattle.std.specs.Prelude.{ℕ, ◌≤◌, List}
-use Rattle.plan.specs.declared.record.Task.{Task}
+use Rattle.plan.specs.declared.tasks.Task.{Task}
 use Rattle.response.specs.Analysis.{demand, deadline_at}
 
 -- t, from 1 to a limit, covers task i's demand

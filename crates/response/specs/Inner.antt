@@ -1,7 +1,7 @@
 -- What the inner functions ask and promise, for their callers' proofs. A reader of the public calls needs none of it.
-use Rattle.std.specs.Prelude.{◌≡◌, List, ℕ, ◌≤◌, ◌<◌, length, get_or}
-use Rattle.plan.specs.declared.record.Task.{Task}
-use Rattle.plan.specs.Tasks.{max_tasks, max_ticks, AllValid}
+use Rattle.std.specs.Prelude.{◌≡◌, List, ℕ, zero, suc, ◌≤◌, ◌<◌, length, get_or, Option, Some, None}
+use Rattle.plan.specs.declared.tasks.Task.{Task}
+use Rattle.plan.specs.Tasks.{max_tasks, max_ticks, Valid, AllValid}
 use Rattle.response.specs.Claims.{Covers}
 
 -- the largest time that a climb tries: no deadline is later
@@ -16,10 +16,9 @@ pub record Limits (ts : List Task) (xs : List ℕ) : Type 0 where
   pub some : (k : ℕ) → k < length xs → 1 ≤ get_or xs k 0
   pub most : (k : ℕ) → get_or xs k 0 ≤ max_ticks
 
--- task j of valid tasks, at a period, by a time
-pub record Interferes (ts : List Task) (j period t : ℕ) : Type 0 where
-  pub valid : AllValid ts
-  pub inside : j < length ts
+-- a valid task, at a period, by a time
+pub record Interferes (task : Task) (period t : ℕ) : Type 0 where
+  pub valid : Valid task
   pub some : 1 ≤ period
   pub most : period ≤ max_ticks
   pub by : t ≤ max_time
@@ -31,7 +30,15 @@ pub record Begins (limit : ℕ) (ts : List Task) (xs : List ℕ) (i t : ℕ) : T
 
 -- a climb of task i from a start
 pub record Climbs (limit : ℕ) (ts : List Task) (xs : List ℕ) (i start : ℕ) : Type 0 where
-  pub limits : Limits ts xs
   pub inside : i < length ts
   pub ends : limit ≤ max_time
   pub begins : Begins limit ts xs i start
+
+-- a response time that is 0 where there is none, and a task, counted from 1, that is 0 where there is none
+abbrev pub some_time : ℕ → Option ℕ
+some_time zero = None
+some_time (suc t) = Some (suc t)
+
+abbrev pub some_task : Option ℕ → ℕ
+some_task None = 0
+some_task (Some i) = suc i

@@ -2,5 +2,6 @@
 pub mod Analysis
 pub mod Assignments
 pub mod Claims
+pub mod Errors
 pub mod Promises
 pub mod Inner

@@ -1,11 +1,13 @@
 -- What TIMES promises, of any bytes, periods and space.
-use Rattle.std.specs.Prelude.{◌≡◌, true, not, cond, List, [], ◌∷◌, ℕ, suc, ◌<◌, eqb, length, get_or}
+use Rattle.std.specs.Prelude.{◌≡◌, true, not, cond, List, [], ◌∷◌, ℕ, suc, ◌<◌, eqb, length, get_or, Result, Ok, Err, Option, Some, None}
 use Rattle.plan.specs.declared.faults.Fault.{Fault}
-use Rattle.plan.specs.declared.record.Task.{Task}
+use Rattle.plan.specs.declared.tasks.Task.{Task}
 use Rattle.plan.specs.Faults.{none, fault_if, passed, or_else, first_fault, first_from}
 use Rattle.plan.specs.Tasks.{between, task_at}
 use Rattle.plan.specs.Files.{tasks_of}
 use Rattle.response.specs.declared.times.Times.{Times}
+use Rattle.response.specs.declared.errors.TimesError.{TimesError}
+use Rattle.response.specs.Errors.{times_error_fault}
 use Rattle.response.specs.Analysis.{response_times, missed_count, first_missed}
 use Rattle.response.specs.Claims.{IsResponseTime}
 
@@ -37,16 +39,31 @@ times_fault f ts xs space = or_else f (periods_fault ts xs space)
 abbrev pub times_of : List ℕ → List ℕ → List ℕ
 times_of s xs = response_times (tasks_of s) xs
 
+-- TIMES's answer: the refusal, how many tasks miss their deadlines, and the first of them, counted from 1, or 0
+pub record TimesAnswer : Type 0 where
+  pub fault : Fault
+  pub missed : ℕ
+  pub first : ℕ
+
 -- "It .. answers the count of late jobs and the first of them (0 if none)"; "TIMES's two counts are 0 when refused"
-abbrev pub refused_times : Fault → Times
+abbrev pub refused_times : Fault → TimesAnswer
 refused_times f = record { fault = f; missed = 0; first = 0 }
 
-abbrev pub answer_times : List ℕ → Times
+abbrev pub answer_times : List ℕ → TimesAnswer
 answer_times rs = record { fault = none; missed = missed_count rs; first = first_missed rs }
+
+-- what a call returns, as that
+abbrev pub number_or_none : Option ℕ → ℕ
+number_or_none None = 0
+number_or_none (Some n) = n
+
+abbrev pub times_answer : Result Times TimesError → TimesAnswer
+times_answer (Ok t) = record { fault = none; missed = t.missed; first = number_or_none t.first }
+times_answer (Err e) = refused_times (times_error_fault e)
 
 -- TIMES, of a file's fault and tasks: "It writes each job's response time, 0 for a late job"; a refusal leaves the
 -- space o as it was
-pub record Analyses (f : Fault) (ts : List Task) (xs o o' : List ℕ) (r : Times) : Type 0 where
+pub record Analyses (f : Fault) (ts : List Task) (xs o o' : List ℕ) (r : TimesAnswer) : Type 0 where
   pub answer : let g = times_fault f ts xs (length o) in
       r ≡ cond (passed g) (answer_times (response_times ts xs)) (refused_times g)
   pub times : o' ≡ cond (passed (times_fault f ts xs (length o))) (response_times ts xs) o

@@ -1,14 +1,16 @@
 #![tactic(auto)]
 
 // Response-time analysis at given periods.
-mod schedulability; // schedulability.rt: all tasks at once
-mod climb; // climb.rt: demand and response time of one task
+mod tasks; // tasks.rt: demand and deadline of one task
+mod assignment; // assignment.rt: tasks at given periods, their response times and deadlines
+mod errors; // errors.rt: why TIMES refuses a call
 mod times; // times.rt: TIMES
 
 // TIMES
+pub use errors::TimesError;
 pub use times::{Times, response_times};
 
 // for the layers above
-pub use climb::{deadline_at, own_demand, response_from, response_time, rounded_up};
-pub use schedulability::{first_unschedulable, is_schedulable};
-pub use times::{periods_fault, times_of};
+pub use assignment::Assignment;
+pub use tasks::{deadline, own_demand};
+pub use times::{check_periods, times_of};

@@ -2,24 +2,40 @@
 
 // Program `timetable`: a plan file from standard input, its listing to standard output. Its exit status tells nothing,
 // so what goes wrong is said on standard error.
+use listing::INPUT_SIZE;
 use std::env::{Env, FillError};
-use std::io::Print;
+use std::fmt;
+
+// What goes wrong.
+#[derive(Clone, Copy)]
+enum Failure {
+    Usage,
+    Reading,
+    Writing,
+}
+
+impl fmt::Display for Failure {
+    fn fmt<W: fmt::Write>(&self, f: &mut fmt::Formatter<W>) -> fmt::Result {
+        f.write_str(match self {
+            Failure::Usage => "usage: timetable < PLAN",
+            Failure::Reading => "timetable: cannot read",
+            Failure::Writing => "timetable: cannot write",
+        })
+    }
+}
+
+fn run(rt: &HostRuntime) -> Result<(), Failure> {
+    let Err(FillError::NotPresent) = rt.arg(1, &mut [0; 0]) else {
+        return Err(Failure::Usage);
+    };
+    let mut file = [0; INPUT_SIZE];
+    let size = input::read_input(rt.stdin(), &mut file).map_err(|_| Failure::Reading)?;
+    let listing = listing::list_input(&file[..size]);
+    rt.write_all(&listing).map_err(|_| Failure::Writing)
+}
 
 fn main(rt: HostRuntime) {
-    let stderr = rt.stderr();
-    let Err(FillError::NotPresent) = rt.arg(1, &mut [0u8; 0]) else {
-        let _ = stderr.write_all(b"usage: timetable < PLAN\n");
-        return;
-    };
-    let mut file = [0u8; listing::INPUT_SIZE];
-    let mut out = [0u8; listing::LISTING_SIZE];
-    let input = input::read_input(rt.stdin(), &mut file);
-    if input.failed {
-        let _ = stderr.write_all(b"timetable: cannot read\n");
-        return;
-    }
-    let end = listing::list_input(&file, input.size, &mut out);
-    if rt.stdout().write_all(&out[..end]).is_err() {
-        let _ = stderr.write_all(b"timetable: cannot write\n");
+    if let Err(failure) = run(&rt) {
+        let _ = rt.eprintln(failure);
     }
 }

@@ -1,2 +1,3 @@
 -- What BEST's call in DESK's block promises.
 pub mod Promises
+pub mod Best

@@ -1,23 +1,39 @@
 ghost use Rattle.trial.specs.Promises.{BestCalls};
 
-use desk::{BLOCK_SIZE, write_block};
+use desk::{Operation, fill_block};
+use optimizer::{CallError, Conclusion};
 use plan::Plan;
 
-// The numbers of the work space.
-const WORK: usize = 16_000;
+// BEST: its periods are written with an answer and with a stop.
+#[derive(Clone, Copy, Debug, PartialEq, Eq)]
+pub struct Best;
+
+impl Operation for Best {
+    ghost use Rattle.optimizer.specs.Claims.{Settles, Improves};
+    ghost use Rattle.optimizer.specs.Promises.{is_searched, best_outcome_of};
+    ghost use Rattle.trial.specs.Best.{best_outcome_of-refuses};
+
+    ghost outcome = { best_outcome_of };
+
+    ghost shows = { λ x. is_searched x.answer.fault.number };
+
+    ghost Claims = { λ ts budget room a xs. Settles ts budget room a xs × Improves ts a xs };
+
+    fn run(
+        plan: &Plan,
+        budget: u64,
+        periods: &mut [u32],
+        work: &mut [u32],
+    ) -> Result<Conclusion, CallError> {
+        optimizer::best_of(plan, budget, periods, work)
+    }
+
+    ghost refuses = { best_outcome_of-refuses };
+}
 
 // DESK's call with BEST in place of CHEAPEST: a stop's cost and periods in the block are the incumbent's.
 pub fn best_call(file: &[u8], block: &mut [u8], budget: u64) -> u32
     ensures { BestCalls file.now budget block.old block.new result }
 {
-    if block.len() != BLOCK_SIZE {
-        return 25;
-    }
-    let loaded = plan::load_plan(file);
-    let n = loaded.plan.tasks;
-    let mut periods = [0u32; Plan::MAX_TASKS];
-    let mut work = [0u32; WORK];
-    let answer = optimizer::best_of(loaded, budget, &mut periods[..n], &mut work);
-    write_block(block, answer, n as u32, &periods);
-    answer.fault.number
+    fill_block::<Best>(file, block, budget)
 }

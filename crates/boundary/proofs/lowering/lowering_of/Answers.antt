@@ -1,36 +1,23 @@
-use Rattle.std.proofs.Common.{◌≡◌, ℕ, List, length, take, sym, ap, ◌∙◌, arith, length-take}
-use Rattle.std.proofs.Math.ListN.{length-map}
-use Rattle.std.proofs.Math.Seq.{take_at}
+use Rattle.std.proofs.Common.{◌≡◌, length, sym, rules}
+use Rattle.std.proofs.Math.Seq.{take-append_seam}
+use Rattle.std.specs.List.{refill}
 use Rattle.plan.specs.Tasks.{period_maxs}
-use Rattle.plan.specs.Table.{column_in, tasks_in}
-use Rattle.plan.proofs.Tables.{column-maxs}
-use Rattle.boundary.specs.Inner.{LowersNode}
-use Rattle.boundary.proofs.Lowered.{lowers-long, lowers-node, lowering-node-is}
+use Rattle.plan.specs.Promises.{plan_tasks}
+use Rattle.plan.proofs.Columns.{column-is}
+use Rattle.boundary.proofs.Lowered.{lowers-node, lowering-node-is}
 use Rattle.boundary.proofs.lowering.lowering_of.Goals as goal
-
--- of the tasks of a table, the column of their longest periods
-module _ (table : List ℕ) {node : List ℕ} (column : List ℕ) (h : LowersNode (tasks_in table) node)
-    (e : take (length (tasks_in table)) column ≡ column_in table 2) where
-  longest : take (length node) column ≡ period_maxs (tasks_in table)
-  longest = ap (λ n. take n column) (lowers-long h) ∙ e ∙ column-maxs table
-
-  long : length node ≡ length (take (length node) column)
-  long = lowers-long h ∙ sym (ap length longest ∙ length-map (tasks_in table) (λ t. t.period_max))
-
-pub slice_bounds-periods-end : goal.slice_bounds-periods-end
-slice_bounds-periods-end c =
-    let x = c.column-periods.result in
-    omega (arith, long c.args.tasks.now x c.requires.0 c.column-periods.ensures, length-take (length c.args.node.now) x)
-
-pub slice_bounds-lower_all-end : goal.slice_bounds-lower_all-end
-slice_bounds-lower_all-end c = long c.args.tasks.now _ c.requires.0 c.column-periods.ensures
 
 pub lower_all-cost-requires : goal.lower_all-cost-requires
 lower_all-cost-requires c =
-    (rw (longest c.args.tasks.now _ c.requires.0 c.column-periods.ensures) (lowers-node c.requires.0), c.requires.1)
+    let longest : c.column-periods.result.items ≡ period_maxs (plan_tasks c.args.plan.now) =
+    column-is (λ t. t.period_max) (λ t x h. search rules) _ _ c.column-periods.ensures in
+    (rw (c.deref_mut.ensures.value, longest) (lowers-node c.requires.0), c.requires.1)
 
 pub returns : goal.returns
 returns c =
-    let n = c.lower_all-cost.auto.x ∙ sym (long c.args.tasks.now _ c.requires.0 c.column-periods.ensures) in
-    rw (take_at c.lower_all-cost.new.x _ _ n, ← lowering-node-is _ _)
-    (rw (longest c.args.tasks.now _ c.requires.0 c.column-periods.ensures) at c.lower_all-cost.ensures)
+    let longest : c.column-periods.result.items ≡ period_maxs (plan_tasks c.args.plan.now) =
+    column-is (λ t. t.period_max) (λ t x h. search rules) _ _ c.column-periods.ensures in
+    let before = c.column-periods.result.items in
+    let long : length before ≡ length c.lower_all-cost.new.x = rw (← c.deref_mut.ensures.value) (sym c.lower_all-cost.auto.x) in
+    let kept : refill (length before) before c.lower_all-cost.new.x ≡ c.lower_all-cost.new.x = rw long (take-append_seam _ _) in
+    rw (kept, ← lowering-node-is _ _) (rw (c.deref_mut.ensures.value, longest) at c.lower_all-cost.ensures)

@@ -1,38 +1,29 @@
-use Rattle.std.proofs.Common.{arith}
+use Rattle.std.proofs.Common.{sym, refl, ◌∙◌, arith}
+use Rattle.boundary.proofs.Found.{found-none, found-some}
+use Rattle.boundary.proofs.OnePeriod.{alike-is}
 use Rattle.boundary.proofs.Missing.{seeks-probes, probing-start, probing-end, probing-responds}
-use Rattle.boundary.proofs.Missing.{probing-period, probing-climbs, probing-response, probing-releases, probing-miss, probing-meet}
+use Rattle.boundary.proofs.Missing.{probing-climbs, probing-period, probing-miss, probing-meet}
 use Rattle.boundary.proofs.misses.last_miss.Goals as goal
-use Rattle.boundary.proofs.misses.last_miss.Goals.{then-found-eq0, else-found-eq0}
+use Rattle.boundary.proofs.misses.last_miss.Goals.{in-None, in-Some}
 
 pub loop-last-init : goal.loop-last-init
-loop-last-init c = probing-start (seeks-probes c.requires c.deadline_at-deadline.ensures) c.requires.begins
+loop-last-init c = probing-start (seeks-probes c.requires c.deadline-deadline.ensures) c.requires.begins
 
-pub response_from-found-requires : goal.response_from-found-requires
-response_from-found-requires c = probing-climbs c.loop-last.invariant c.probe-period.ensures
-
-pub rounded_up-requires : goal.rounded_up-requires
-rounded_up-requires c = (
-  probing-response c.loop-last.invariant c.probe-period.ensures c.response_from-found.ensures,
-  probing-period c.loop-last.invariant c.probe-period.ensures,
-)
-
-pub rounded_up-high-requires : goal.rounded_up-high-requires
-rounded_up-high-requires c =
-    let g = c.loop-last.invariant in
-    rw c.rounded_up.ensures.0 (
-      probing-response g c.probe-period.ensures c.response_from-found.ensures,
-      probing-releases g c.probe-period.ensures c.response_from-found.ensures (omega arith),
-    )
+pub response_from-requires : goal.response_from-requires
+response_from-requires c = probing-climbs c.loop-last.invariant c.probe-period.ensures
 
 pub loop-last-preserved : goal.loop-last-preserved
 loop-last-preserved c =
     let g = c.loop-last.invariant in
     let p = c.probe-period.ensures in
-    let e = c.response_from-found.ensures in
-    elim c.if-found-eq0.branch [
-      | then-found-eq0 w ↦ rw (w.last-is, w.high-is, w.response-is) (probing-miss g p e w.if-found-eq0.true)
-      | else-found-eq0 w ↦ rw (w.last-is, w.high-is, w.response-is, w.rounded_up-high.ensures.0, w.rounded_up.ensures.0)
-          (probing-meet g p e (omega arith))
+    elim c.match-response_from.branch [
+      | in-None w ↦ rw (w.last-is, w.high-is, w.response-is)
+          (probing-miss g p refl (found-none _ (sym c.response_from.ensures ∙ w.in-None.is)))
+      | in-Some w ↦
+          let found = found-some _ (sym c.response_from.ensures ∙ w.in-Some.is) in
+          let high = w.high-is ∙ w.div_ceil-high.ensures in
+          rw (w.last-is, w.response-is, high, w.div_ceil.ensures, alike-is _ _ found.1 (probing-period g p).0)
+          (probing-meet g p found.0 found.1)
     ]
 
 pub returns-clause-is : goal.returns-clause-is

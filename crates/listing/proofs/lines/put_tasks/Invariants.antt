@@ -1,9 +1,11 @@
-use Rattle.std.proofs.Common.{◌-◌, length}
-use Rattle.listing.proofs.TaskLines.{Lined}
+use Rattle.std.proofs.Common.{◌≡◌, ◌++◌, ◌+◌, ◌*◌, ◌≤◌, length}
+use Rattle.response.specs.Promises.{times_of}
+use Rattle.listing.specs.Text.{task_lines}
+use Rattle.listing.specs.Inner.{line_size}
 use Rattle.listing.proofs.lines.put_tasks.Given as goal
 
 abbrev pub invariant-loop-i : goal.invariant-loop-i
-invariant-loop-i l = Lined l.file l.periods l.times l.at l.initial.out l.i l.end l.out
-
-abbrev pub decreases-loop-i : goal.decreases-loop-i
-decreases-loop-i l = length l.periods - l.i
+invariant-loop-i l = let xs = l.assignment.periods.now in record {
+  puts : l.text.items ≡ l.initial.text.items ++ task_lines l.file xs (times_of l.file xs) l.i;
+  few : length l.text.items ≤ length l.initial.text.items + line_size * l.i;
+}

@@ -1,39 +1,18 @@
-use Rattle.std.proofs.Common.{◌≡◌, arith, replicate, sym, ap, ◌∙◌}
-use Rattle.plan.proofs.Tables.{column-maxs}
-use Rattle.response.proofs.Missed.{first-schedulable}
-use Rattle.optimizer.proofs.Concluding.{is-alone, is_none, concluded-refused, concluded-searched, longest-limits}
+use Rattle.std.proofs.Common.{◌≡◌, rules, replicate, ap, ◌∙◌, Err}
+use Rattle.plan.specs.Promises.{plan_tasks}
+use Rattle.optimizer.proofs.Concluding.{concluded-refused, searchable, concluded-searched}
 use Rattle.optimizer.proofs.call.conclude.Goals as goal
 
-pub returns-then-alone-ne0 : goal.returns-then-alone-ne0
-returns-then-alone-ne0 c =
-    concluded-refused c.if-alone-ne0.true c.refused.ensures c.args.keeps _ _
-    (is-alone _ c.alone_fault-alone.ensures c.if-alone-ne0.true)
+pub search-conclusion-requires : goal.search-conclusion-requires
+search-conclusion-requires c = searchable (plan_tasks c.args.plan.now) c.in_ok-check_feasible.ensures c.requires
 
-pub first_unschedulable-missed-requires : goal.first_unschedulable-missed-requires
-first_unschedulable-missed-requires c =
-    rw (c.requires.sized, c.column-longest.ensures, column-maxs c.args.tasks.now) (longest-limits c.requires)
+pub returns-in_err-check_feasible-clause-leaves : goal.returns-in_err-check_feasible-clause-leaves
+returns-in_err-check_feasible-clause-leaves c =
+    let e : c.from_residual.result ≡ Err c.in_err-check_feasible.field-0.0 = search rules in
+    rw e (concluded-refused c.in_err-check_feasible.field-0.0 c.args.keeps _ _ c.in_err-check_feasible.ensures)
 
-pub returns-then-missed-gt-NO_TASK : goal.returns-then-missed-gt-NO_TASK
-returns-then-missed-gt-NO_TASK c =
-    let tasks = c.args.tasks.now in
-    let passes = rw c.alone_fault-alone.ensures at c.if-alone-ne0.false in
-    let missed = rw (c.requires.sized, c.column-longest.ensures, column-maxs tasks) at
-    c.first_unschedulable-missed.ensures in
-    concluded-refused (λ z. omega arith) c.refused-then-missed-gt-NO_TASK.ensures c.args.keeps _ _
-    (is_none _ passes missed (λ z. omega arith))
-
-pub search-answer-requires : goal.search-answer-requires
-search-answer-requires c =
-    let missed = rw (c.requires.sized, c.column-longest.ensures, column-maxs c.args.tasks.now) at
-    c.first_unschedulable-missed.ensures in
-    let none : c.first_unschedulable-missed.result ≡ 0 = omega arith in
-    record { given = c.requires; top = first-schedulable _ _ (sym missed ∙ none) }
-
-pub returns : goal.returns
-returns c =
-    let passes = rw c.alone_fault-alone.ensures at c.if-alone-ne0.false in
-    let missed = rw (c.requires.sized, c.column-longest.ensures, column-maxs c.args.tasks.now) at
-    c.first_unschedulable-missed.ensures in
-    let none : c.first_unschedulable-missed.result ≡ 0 = omega arith in
-    concluded-searched _ passes c.requires.valid (first-schedulable _ _ (sym missed ∙ none))
-    c.args.keeps _ _ c.search-answer.ensures (c.clear.ensures ∙ ap (λ k. replicate k 0) c.search-answer.auto.work)
+pub returns-clause-leaves : goal.returns-clause-leaves
+returns-clause-leaves c =
+    concluded-searched (plan_tasks c.args.plan.now) c.in_ok-check_feasible.ensures c.requires.valid c.args.keeps _ _
+    c.search-conclusion.ensures.ends
+    (c.fill.ensures.after (λ y e. search rules) ∙ ap (λ k. replicate k 0) c.search-conclusion.auto.work)

@@ -1,5 +1,5 @@
 use Rattle.optimizer.proofs.Promised.{plans}
 use Rattle.optimizer.proofs.cheapest.cheapest_of.Goals as goal
 
-pub returns : goal.returns
-returns c = plans _ _ c.requires.valid _ _ _ _ _ _ c.run_call.ensures
+pub returns-clause-plans : goal.returns-clause-plans
+returns-clause-plans c = plans _ _ c.args.plan.now.valid _ _ _ _ _ _ c.run_call.ensures.leaves

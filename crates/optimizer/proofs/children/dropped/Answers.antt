@@ -4,15 +4,15 @@ use Rattle.optimizer.proofs.children.dropped.Goals.{in-One, in-Nothing}
 
 pub returns-in-All : goal.returns-in-All
 returns-in-All c =
-    mark-every c.requires c.loop-k.invariant c.loop-k-test.true c.node_at.ensures c.dropped_by-d.ensures c.in-All.is
+    mark-every c.requires c.loop-k.invariant c.loop-k-test.true c.node.ensures c.dropped_by.ensures c.in-All.is
 
 pub loop-k-preserved : goal.loop-k-preserved
 loop-k-preserved c =
     let m = c.loop-k.invariant in
     let h = c.loop-k-test.true in
-    let q = c.node_at.ensures in
-    let d = c.dropped_by-d.ensures in
-    elim c.match-d.branch [
+    let q = c.node.ensures in
+    let d = c.dropped_by.ensures in
+    elim c.match-dropped_by.branch [
       | in-One w ↦ rw w.marks-is (mark-one c.requires m h q d w.in-One.is)
       | in-Nothing w ↦ rw w.marks-is (mark-none c.requires m h q d w.in-Nothing.is)
     ]

@@ -1,24 +1,60 @@
-use Rattle.std.proofs.Common.{◌≡◌, ℕ, List, length, sym, ◌∙◌}
-use Rattle.plan.specs.declared.record.Task.{Task}
+use Rattle.std.proofs.Common.{sym, ◌∙◌}
+use Rattle.plan.specs.declared.record.Plan.{Plan}
+use Rattle.plan.specs.Promises.{plan_tasks}
 use Rattle.boundary.specs.declared.node.Node.{Node}
-use Rattle.optimizer.specs.Inner.{Ready, Taken}
-use Rattle.optimizer.proofs.Taking.{Took, node-limits, node-fails, node-room, node-above, round-branched}
+use Rattle.optimizer.specs.declared.nodes.OpenNodes.{OpenNodes}
+use Rattle.optimizer.specs.Inner.{Ready, SameSpace, Taken}
+use Rattle.optimizer.proofs.Taking.{Took, node-limits, node-fails, node-expands}
+use Rattle.optimizer.proofs.Taking.{round-answered, round-listed, round-full}
 use Rattle.optimizer.proofs.round.run_round.Goals as goal
+use Rattle.optimizer.proofs.round.run_round.Goals.{then-is_schedulable}
+use Rattle.optimizer.proofs.round.run_round.Goals.{else-is_schedulable+then-expand, else-is_schedulable+else-expand}
 
-took : {ts : List Task} {work : List ℕ} {count room : ℕ} {v : List ℕ} {x : Node} {n : ℕ}
-    → Ready ts work count room → Taken ts count work v x → n ≡ length ts → Took ts work count room v x n
-took r t e = record { ready = r; taken = t; counts = e }
+took : (plan : Plan) {old others : OpenNodes} {x : Node} → Ready (plan_tasks plan) old → SameSpace old others
+    → Taken old others x → Took (plan_tasks plan) old others x
+took plan r s t = record { valid = plan.valid; few = plan.few; ready = r; space = s; taken = t }
 
-pub is_schedulable-requires : goal.is_schedulable-requires
-is_schedulable-requires c = node-limits (took c.requires c.take_least-node.ensures c.task_count-n.ensures)
+pub invariant_of-assignment : goal.invariant_of-assignment
+invariant_of-assignment c =
+    let k = took c.args.plan.now c.requires c.take_least-node.ensures.same c.take_least-node.ensures.taken in
+    record { limits = rw c.deref.ensures.0 (node-limits k) }
 
-pub branch-step-requires : goal.branch-step-requires
-branch-step-requires c =
-    let k = took c.requires c.take_least-node.ensures c.task_count-n.ensures in
-    let e = sym c.is_schedulable.ensures ∙ c.if-is_schedulable.false in
-    (node-fails k e, (node-room k e c.take_least-node.auto.work, node-above k e))
+pub mua_of-requires : goal.mua_of-requires
+mua_of-requires c =
+    let k = took c.args.plan.now c.requires c.take_least-node.ensures.same c.take_least-node.ensures.taken in
+    rw c.deref.ensures.0
+    (node-fails k (rw c.deref.ensures.0 at (sym c.is_schedulable.ensures ∙ c.if-is_schedulable.false)))
 
-pub returns : goal.returns
-returns c =
-    round-branched (took c.requires c.take_least-node.ensures c.task_count-n.ensures)
-    (sym c.is_schedulable.ensures ∙ c.if-is_schedulable.false) c.branch-step.ensures
+pub expand-requires : goal.expand-requires
+expand-requires c =
+    let k = took c.args.plan.now c.requires c.take_least-node.ensures.same c.take_least-node.ensures.taken in
+    rw (c.deref-else-is_schedulable-2.ensures.0, c.mua_of.ensures, c.deref-else-is_schedulable.ensures.0)
+    (rw c.deref.ensures.0
+    (node-expands k (rw c.deref.ensures.0 at (sym c.is_schedulable.ensures ∙ c.if-is_schedulable.false))))
+
+pub returns-clause-rounds : goal.returns-clause-rounds
+returns-clause-rounds c =
+    let k = took c.args.plan.now c.requires c.take_least-node.ensures.same c.take_least-node.ensures.taken in
+    elim c.if-is_schedulable.branch [
+      | then-is_schedulable w ↦
+          rw (w.nodes-is, w.step-is)
+          (round-answered k (rw c.deref.ensures.0 at (sym c.is_schedulable.ensures ∙ w.if-is_schedulable.true)))
+      | else-is_schedulable+then-expand w ↦
+          rw (w.nodes-is, w.step-is)
+          (round-listed k (rw c.deref.ensures.0 at (sym c.is_schedulable.ensures ∙ w.if-is_schedulable.false))
+          (rw (
+            w.deref-else-is_schedulable-2.ensures.0,
+            w.mua_of.ensures,
+            w.deref-else-is_schedulable.ensures.0,
+            c.deref.ensures.0,
+          ) at w.expand.ensures.lists) w.if-expand.true)
+      | else-is_schedulable+else-expand w ↦
+          rw (w.nodes-is, w.step-is)
+          (round-full k (rw c.deref.ensures.0 at (sym c.is_schedulable.ensures ∙ w.if-is_schedulable.false))
+          (rw (
+            w.deref-else-is_schedulable-2.ensures.0,
+            w.mua_of.ensures,
+            w.deref-else-is_schedulable.ensures.0,
+            c.deref.ensures.0,
+          ) at w.expand.ensures.lists) w.if-expand.false)
+    ]

@@ -1,54 +1,111 @@
-use Rattle.std.proofs.Common.{◌≡◌, length, take, ◌∙◌}
-use Rattle.plan.specs.Tasks.{period_mins}
-use Rattle.plan.specs.Table.{tasks_in}
-use Rattle.plan.proofs.Tables.{column-mins}
-use Rattle.optimizer.proofs.Looping.{ready}
-use Rattle.optimizer.proofs.Searching.{begin-asks, searches, searching-improves, searching-spent, searching-answered}
-use Rattle.optimizer.proofs.Searching.{searching-full, searching-on, ends-called}
+use Rattle.std.proofs.Common.{◌≡◌, ℕ, Bool, List, arith, rules, refl, suc, ◌+◌, ◌-◌, ◌≤◌, subst, ◌∙◌}
+use Rattle.std.specs.Prelude.{Option}
+use Rattle.plan.specs.declared.tasks.Task.{Task}
+use Rattle.optimizer.specs.declared.nodes.OpenNodes.{OpenNodes}
+use Rattle.optimizer.specs.declared.round.Step.TheVariants.{Answered, Listed, Full}
+use Rattle.optimizer.specs.Rule.{End}
+use Rattle.optimizer.proofs.Searching.{Searching, searches, searching-ready, searching-sized, searching-answered}
+use Rattle.optimizer.proofs.Searching.{searching-improves, searching-full, searching-on, searching-spent, searching-keeps, improved-keeps}
 use Rattle.optimizer.proofs.search.search.Goals as goal
+use Rattle.optimizer.proofs.search.search.Goals.{else-loop-rounds-test}
+use Rattle.optimizer.proofs.search.search.Goals.{then-loop-rounds-test+else-eq+else-eq-2+else-rounds-budget}
 
-pub begin-best_cost-requires : goal.begin-best_cost-requires
-begin-best_cost-requires c = begin-asks c.requires.given
+-- round n comes after n - 1 others
+after : {n : ℕ} → 1 ≤ n → n ≡ suc (n - 1)
+after h = omega arith
+
+-- after the last round
+last : {ts : List Task} {keeps : Bool} {goal : End (List ℕ)} {budget : ℕ} {o p p' : List ℕ} {nodes nodes' : OpenNodes}
+    {total total' : Option ℕ} {rounds : ℕ} → Searching ts keeps goal budget o p nodes total rounds → rounds ≡ budget
+    → p' ≡ p → nodes' ≡ nodes → total' ≡ total → Searching ts keeps goal budget o p' nodes' total' budget
+last {ts} {keeps} {goal} {budget} {o} {p} {p'} {nodes} {nodes'} {total} g e ep en et =
+    rw (ep, en, et) (subst (λ (n : ℕ). Searching ts keeps goal budget o p nodes total n) e g)
 
 pub loop-rounds-init : goal.loop-rounds-init
 loop-rounds-init c =
-    let first : take (length c.args.periods.now) c.column-first.result ≡ period_mins (tasks_in c.args.tasks.now) =
-    rw c.requires.given.sized (c.column-first.ensures ∙ column-mins c.args.tasks.now) in
-    let b = c.begin-best_cost in
-    searches c.requires c.args.keeps c.args.budget c.place.auto.work first c.place.ensures b.ensures.is b.auto.best
-    b.ensures.costs
+    let b = c.begin-incumbent in
+    searches c.requires c.args.keeps c.args.budget c.start-nodes.ensures.starts b.ensures.is b.auto.best b.ensures.costs
 
 pub run_round-done-requires : goal.run_round-done-requires
-run_round-done-requires c = ready c.loop-rounds.invariant.looping
+run_round-done-requires c = searching-ready c.loop-rounds.invariant
 
-pub returns-in-Answered : goal.returns-in-Answered
-returns-in-Answered c =
-    ends-called c.requires.given c.args.keeps c.args.budget c.begin-best_cost.ensures.is
-    (searching-answered c.loop-rounds.invariant c.loop-rounds-test.true c.run_round-done.ensures c.requires.given.sized
-    c.in-Answered.is c.write_node.ensures c.answered.ensures)
+pub copy_from_slice-requires : goal.copy_from_slice-requires
+copy_from_slice-requires c =
+    let d = c.run_round-done.ensures in
+    rw c.deref.ensures.0
+    (searching-sized c.loop-rounds.invariant (after (omega arith)) (omega arith) d.same d.rounds)
 
-pub improve-best_cost-requires : goal.improve-best_cost-requires
-improve-best_cost-requires c =
-    searching-improves c.loop-rounds.invariant c.loop-rounds-test.true c.run_round-done.ensures c.requires.given.sized
+pub returns-then-eq-clause-ends : goal.returns-then-eq-clause-ends
+returns-then-eq-clause-ends c =
+    let d = c.run_round-done.ensures in
+    let step : c.run_round-done.result.step ≡ Answered = search rules in
+    searching-answered c.loop-rounds.invariant (after (omega arith)) (omega arith) d.same d.rounds step
+    (c.copy_from_slice.ensures.after ∙ c.deref.ensures.0) refl
 
-pub returns-in-Full : goal.returns-in-Full
-returns-in-Full c =
-    let b = c.improve-best_cost in
-    ends-called c.requires.given c.args.keeps c.args.budget c.begin-best_cost.ensures.is
-    (searching-full c.loop-rounds.invariant c.loop-rounds-test.true c.run_round-done.ensures c.requires.given.sized
-    b.ensures.is b.ensures.costs c.in-Full.is c.stopped.ensures)
+pub improve-incumbent-requires : goal.improve-incumbent-requires
+improve-incumbent-requires c =
+    let d = c.run_round-done.ensures in
+    searching-improves c.loop-rounds.invariant (after (omega arith)) (omega arith) d.same d.rounds c.requires
 
-pub improve-best_cost-requires-in-Listed : goal.improve-best_cost-requires-in-Listed
-improve-best_cost-requires-in-Listed c =
-    searching-improves c.loop-rounds.invariant c.loop-rounds-test.true c.run_round-done.ensures c.requires.given.sized
+pub returns-then-eq-2-clause-ends : goal.returns-then-eq-2-clause-ends
+returns-then-eq-2-clause-ends c =
+    let d = c.run_round-done.ensures in
+    let b = c.improve-incumbent.ensures in
+    let step : c.run_round-done.result.step ≡ Full = search rules in
+    searching-full c.loop-rounds.invariant (after (omega arith)) (omega arith) d.same d.rounds b.is b.costs step refl
+
+pub returns-then-eq-2-clause-keeps : goal.returns-then-eq-2-clause-keeps
+returns-then-eq-2-clause-keeps c =
+    let d = c.run_round-done.ensures in
+    let b = c.improve-incumbent.ensures in
+    improved-keeps c.loop-rounds.invariant (after (omega arith)) (omega arith) d.same d.rounds b.is b.costs
 
 pub loop-rounds-preserved : goal.loop-rounds-preserved
 loop-rounds-preserved c =
-    let b = c.improve-best_cost-in-Listed in
-    searching-on c.loop-rounds.invariant c.loop-rounds-test.true c.run_round-done.ensures c.requires.given.sized
-    b.ensures.is b.ensures.costs b.auto.best c.in-Listed.is c.run_round-done.auto.work
+    let d = c.run_round-done.ensures in
+    let b = c.improve-incumbent in
+    let step : c.run_round-done.result.step ≡ Listed = search rules in
+    let e : c.loop-rounds.rounds + 1 - 1 ≡ c.loop-rounds.rounds = omega arith in
+    rw e
+    (searching-on c.loop-rounds.invariant (after (omega arith)) (omega arith) d.same d.rounds b.ensures.is
+    b.ensures.costs b.auto.best step)
 
-pub returns : goal.returns
-returns c =
-    ends-called c.requires.given c.args.keeps c.args.budget c.begin-best_cost.ensures.is
-    (searching-spent c.loop-rounds.invariant c.loop-rounds-test.false c.bound_of.ensures c.stopped-2.ensures)
+pub bound-requires : goal.bound-requires
+bound-requires c = elim c.loop-rounds-test.branch [
+  | else-loop-rounds-test w ↦
+      (searching-ready (last c.loop-rounds.invariant (omega arith) w.periods-is w.nodes-is w.incumbent-is)).some
+  | then-loop-rounds-test+else-eq+else-eq-2+else-rounds-budget w ↦
+      let d = w.run_round-done.ensures in
+      let b = w.improve-incumbent in
+      let step : w.run_round-done.result.step ≡ Listed = search rules in
+      let g = searching-on c.loop-rounds.invariant (after (omega arith)) (omega arith) d.same d.rounds b.ensures.is
+      b.ensures.costs b.auto.best step in
+      (searching-ready (last g (omega arith) w.periods-is w.nodes-is w.incumbent-is)).some
+]
+
+pub returns-clause-ends : goal.returns-clause-ends
+returns-clause-ends c = elim c.loop-rounds-test.branch [
+  | else-loop-rounds-test w ↦
+      searching-spent (last c.loop-rounds.invariant (omega arith) w.periods-is w.nodes-is w.incumbent-is) refl
+      c.bound.ensures refl
+  | then-loop-rounds-test+else-eq+else-eq-2+else-rounds-budget w ↦
+      let d = w.run_round-done.ensures in
+      let b = w.improve-incumbent in
+      let step : w.run_round-done.result.step ≡ Listed = search rules in
+      let g = searching-on c.loop-rounds.invariant (after (omega arith)) (omega arith) d.same d.rounds b.ensures.is
+      b.ensures.costs b.auto.best step in
+      searching-spent (last g (omega arith) w.periods-is w.nodes-is w.incumbent-is) refl c.bound.ensures refl
+]
+
+pub returns-clause-keeps : goal.returns-clause-keeps
+returns-clause-keeps c = elim c.loop-rounds-test.branch [
+  | else-loop-rounds-test w ↦
+      searching-keeps (last c.loop-rounds.invariant (omega arith) w.periods-is w.nodes-is w.incumbent-is)
+  | then-loop-rounds-test+else-eq+else-eq-2+else-rounds-budget w ↦
+      let d = w.run_round-done.ensures in
+      let b = w.improve-incumbent in
+      let step : w.run_round-done.result.step ≡ Listed = search rules in
+      let g = searching-on c.loop-rounds.invariant (after (omega arith)) (omega arith) d.same d.rounds b.ensures.is
+      b.ensures.costs b.auto.best step in
+      searching-keeps (last g (omega arith) w.periods-is w.nodes-is w.incumbent-is)
+]

@@ -1,65 +1,66 @@
-use Rattle.std.proofs.Common.{sym, ap, ◌∙◌}
-use Rattle.plan.specs.declared.layout.Layout.TheVariants.{Broken}
-use Rattle.plan.specs.Inner.{fault_of_layout}
-use Rattle.plan.proofs.Header.{located, unlocated}
-use Rattle.plan.proofs.Accepted.{all_pass}
-use Rattle.plan.proofs.Loading.{at-layout, at_gap, at-tasks, at_names, loads-refused, loads-broken, loads-all}
+use Rattle.std.proofs.Common.{arith, ap, ◌∙◌}
+use Rattle.std.proofs.lemmas.Result.{err_from_is_err_and}
+use Rattle.plan.proofs.Numbers.{read_error_first}
+use Rattle.plan.proofs.Loading.{file_rules, no-fault, read-some, read-valid, loads-plan}
 use Rattle.plan.proofs.reader.load_plan.Goals as goal
 
-pub returns-in_default : goal.returns-in_default
-returns-in_default c =
-    let s = c.args.file.now in
-    let f = c.layout_fault.ensures ∙ ap fault_of_layout c.in_default.is in
-    let u = unlocated s c.layout_fault.result (ap Broken f ∙ c.in_default.ensures) in
-    let p = loads-refused s c.refused.result u.0 (at-layout s u.0 (sym u.1)) c.refused.ensures in
-    record { loads = p.0; usable = p.1 }
+pub returns-in_err-located-clause-refuses : goal.returns-in_err-located-clause-refuses
+returns-in_err-located-clause-refuses c =
+    let p = err_from_is_err_and c.from_residual.result c.from_residual.ensures.1 in
+    let rules = file_rules c.args.file.now in
+    rw (p.1, p.2) (grind (arith, rules, c.in_err-located.ensures.refuses, read_error_first))
 
-pub stray_byte-stray-requires : goal.stray_byte-stray-requires
-stray_byte-stray-requires c = (located c.args.file.now c.in-Located.areas c.in-Located.ensures).0
+pub returns-in_err-check_gaps-clause-refuses : goal.returns-in_err-check_gaps-clause-refuses
+returns-in_err-check_gaps-clause-refuses c =
+    let same = ap (λ f. f.now) c.in_ok-located.ensures.file in
+    let p = err_from_is_err_and c.from_residual-in_err-check_gaps.result c.from_residual-in_err-check_gaps.ensures.1 in
+    let rules = file_rules c.args.file.now in
+    let e1 = c.in_ok-located.ensures.refuses in
+    rw (p.1, p.2) (grind (arith, rules, same, e1, c.in_err-check_gaps.ensures, read_error_first))
 
-pub returns-then-stray-ne0 : goal.returns-then-stray-ne0
-returns-then-stray-ne0 c =
-    let s = c.args.file.now in
-    let h = c.if-stray-ne0.true in
-    let r = c.refused-then-stray-ne0 in
-    let l = (located s c.in-Located.areas c.in-Located.ensures).1 in
-    let p = loads-refused s r.result h (at_gap s h l c.stray_byte-stray.ensures) r.ensures in
-    record { loads = p.0; usable = p.1 }
+pub returns-in_err-tasks-clause-refuses : goal.returns-in_err-tasks-clause-refuses
+returns-in_err-tasks-clause-refuses c =
+    let same = ap (λ f. f.now) c.in_ok-located.ensures.file in
+    let p = err_from_is_err_and c.from_residual-in_err-tasks.result c.from_residual-in_err-tasks.ensures.1 in
+    let rules = file_rules c.args.file.now in
+    let e1 = c.in_ok-located.ensures.refuses in
+    let e2 = c.in_ok-check_gaps.ensures in
+    rw (p.1, p.2) (grind (arith, rules, same, e1, e2, c.in_err-tasks.ensures.refuses, read_error_first))
 
-pub decode_tasks-decoded-requires : goal.decode_tasks-decoded-requires
-decode_tasks-decoded-requires c = (located c.args.file.now c.in-Located.areas c.in-Located.ensures).0
+pub returns-in_err-check_same_names-clause-refuses : goal.returns-in_err-check_same_names-clause-refuses
+returns-in_err-check_same_names-clause-refuses c =
+    let same = ap (λ f. f.now) c.in_ok-located.ensures.file in
+    let p = err_from_is_err_and c.from_residual-in_err-check_same_names.result
+    c.from_residual-in_err-check_same_names.ensures.1 in
+    let rules = file_rules c.args.file.now in
+    let e1 = c.in_ok-located.ensures.refuses in
+    let e2 = c.in_ok-check_gaps.ensures in
+    let e3 = c.in_ok-tasks.ensures.refuses in
+    rw (p.1, p.2) (grind (arith, rules, same, e1, e2, e3, c.in_err-check_same_names.ensures, read_error_first))
 
-pub returns-then-decoded-ne0 : goal.returns-then-decoded-ne0
-returns-then-decoded-ne0 c =
-    let s = c.args.file.now in
-    let h = c.if-decoded-ne0.true in
-    let d = c.decode_tasks-decoded in
-    let l = (located s c.in-Located.areas c.in-Located.ensures).1 in
-    let g = sym (ap (λ f. f.number) c.stray_byte-stray.ensures) ∙ c.if-stray-ne0.false in
-    let p = loads-broken s d.result h (at-tasks s h l g d.ensures.fault) d.ensures in
-    record { loads = p.0; usable = p.1 }
+pub new-requires-clause-some : goal.new-requires-clause-some
+new-requires-clause-some c =
+    let same = ap (λ f. f.now) c.in_ok-located.ensures.file in
+    read-some c.args.file.now same c.in_ok-located.ensures.refuses c.in_ok-check_gaps.ensures
+    c.in_ok-tasks.ensures.refuses c.in_ok-check_same_names.ensures c.in_ok-tasks.ensures.decodes
 
-pub repeated_name-repeated-requires : goal.repeated_name-repeated-requires
-repeated_name-repeated-requires c = (located c.args.file.now c.in-Located.areas c.in-Located.ensures).0
+pub new-requires-clause-valid : goal.new-requires-clause-valid
+new-requires-clause-valid c =
+    let same = ap (λ f. f.now) c.in_ok-located.ensures.file in
+    read-valid c.args.file.now same c.in_ok-located.ensures.refuses c.in_ok-check_gaps.ensures
+    c.in_ok-tasks.ensures.refuses c.in_ok-check_same_names.ensures c.in_ok-tasks.ensures.decodes
 
-pub returns-then-repeated-ne0 : goal.returns-then-repeated-ne0
-returns-then-repeated-ne0 c =
-    let s = c.args.file.now in
-    let h = c.if-repeated-ne0.true in
-    let r = c.refused-then-repeated-ne0 in
-    let l = (located s c.in-Located.areas c.in-Located.ensures).1 in
-    let g = sym (ap (λ f. f.number) c.stray_byte-stray.ensures) ∙ c.if-stray-ne0.false in
-    let t = sym (ap (λ f. f.number) c.decode_tasks-decoded.ensures.fault) ∙ c.if-decoded-ne0.false in
-    let p = loads-refused s r.result h (at_names s h l g t c.repeated_name-repeated.ensures) r.ensures in
-    record { loads = p.0; usable = p.1 }
+pub returns-clause-refuses : goal.returns-clause-refuses
+returns-clause-refuses c =
+    let same = ap (λ f. f.now) c.in_ok-located.ensures.file in
+    no-fault c.args.file.now same c.in_ok-located.ensures.refuses c.in_ok-check_gaps.ensures
+    c.in_ok-tasks.ensures.refuses c.in_ok-check_same_names.ensures c.in_ok-tasks.ensures.decodes
 
-pub returns : goal.returns
-returns c =
-    let s = c.args.file.now in
-    let d = c.decode_tasks-decoded in
-    let l = (located s c.in-Located.areas c.in-Located.ensures).1 in
-    let g = sym (ap (λ f. f.number) c.stray_byte-stray.ensures) ∙ c.if-stray-ne0.false in
-    let t = sym (ap (λ f. f.number) d.ensures.fault) ∙ c.if-decoded-ne0.false in
-    let n = sym (ap (λ f. f.number) c.repeated_name-repeated.ensures) ∙ c.if-repeated-ne0.false in
-    let p = loads-all s d.result (all_pass s l g t n) t d.ensures in
-    record { loads = p.0; usable = p.1 }
+pub returns-clause-loads : goal.returns-clause-loads
+returns-clause-loads c =
+    let same = ap (λ f. f.now) c.in_ok-located.ensures.file in
+    loads-plan c.args.file.now same c.in_ok-located.ensures.refuses c.in_ok-check_gaps.ensures
+    c.in_ok-tasks.ensures.refuses c.in_ok-check_same_names.ensures c.in_ok-tasks.ensures.decodes
+    c.new.result
+    (ap (λ v. v.items) c.new.ensures.tasks)
+    (c.new.ensures.names ∙ ap (λ a. a.names.start) c.in_ok-located.ensures.areas)

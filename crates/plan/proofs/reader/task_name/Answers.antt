@@ -1,22 +1,23 @@
-use Rattle.std.proofs.Common.{arith, refl, sym, ◌∙◌}
+use Rattle.std.proofs.Common.{◌≡◌, true, false, length, arith, rules, refl, ◌∙◌}
+use Rattle.plan.specs.Tasks.{between}
 use Rattle.plan.proofs.Tests.{between_le}
 use Rattle.plan.proofs.Accepted.{no_name, tasks-length}
-use Rattle.plan.proofs.Loading.{loads-accepted, loaded-count}
+use Rattle.plan.proofs.Loading.{loaded-count}
 use Rattle.plan.proofs.reader.task_name.Goals as goal
 
-pub returns-then-not-between : goal.returns-then-not-between
-returns-then-not-between c =
+pub returns-then-not-contains : goal.returns-then-not-contains
+returns-then-not-contains c =
     let s = c.args.file.now in
-    let l = c.load_plan-loaded in
-    let a = loads-accepted s l.result l.ensures.loads c.if-loaded-ne0.false in
-    let n = loaded-count s l.result (l.ensures.loads, l.ensures.usable) ∙ tasks-length s a in
-    no_name c.args.file.ref_ptr s c.args.task _ _ (rw (a, ← n, ← c.if-not-between.ensures)) refl (omega arith) refl
+    let loads = c.in-Ok.ensures.loads in
+    let n = loaded-count s c.in-Ok.plan loads ∙ tasks-length s loads.accepts in
+    let r : between 1 c.args.task (length c.in-Ok.plan.tasks.items) ≡ false = search rules in
+    no_name c.args.file.ref_ptr s c.args.task _ _ (rw (loads.accepts, ← n) r) refl (omega arith) refl
 
 pub name_at-requires : goal.name_at-requires
 name_at-requires c =
     let s = c.args.file.now in
-    let l = c.load_plan-loaded in
-    let a = loads-accepted s l.result l.ensures.loads c.if-loaded-ne0.false in
-    let n = loaded-count s l.result (l.ensures.loads, l.ensures.usable) ∙ tasks-length s a in
-    let r = between_le 1 c.args.task l.result.plan.tasks (sym c.if-not-between.ensures) in
-    record { accepts = a; inside = omega arith; begins = l.ensures.loads.names a }
+    let loads = c.in-Ok.ensures.loads in
+    let n = loaded-count s c.in-Ok.plan loads ∙ tasks-length s loads.accepts in
+    let r : between 1 c.args.task (length c.in-Ok.plan.tasks.items) ≡ true = search rules in
+    let inside = between_le 1 c.args.task (length c.in-Ok.plan.tasks.items) r in
+    record { accepts = loads.accepts; inside = omega arith; begins = loads.names }

@@ -3,4 +3,4 @@ use Rattle.plan.proofs.Bytes.{word_two}
 use Rattle.plan.proofs.words.word2_at.Goals as goal
 
 pub returns : goal.returns
-returns c = (omega (arith, word_two), omega arith)
+returns c = omega (arith, word_two)

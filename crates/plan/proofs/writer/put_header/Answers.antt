@@ -3,12 +3,6 @@ use Rattle.plan.proofs.writer.put_header.Goals as goal
 
 pub returns : goal.returns
 returns c =
-    rw (
-      c.put_word-5.ensures,
-      c.put_word-4.ensures,
-      c.put_word-3.ensures,
-      c.put_word-2.ensures,
-      c.put_word.ensures,
-      c.wide.ensures,
-    )
-    (header-put _ _ _ _ _)
+    let a = c.args in
+    rw (c.put_words.ensures, c.put_bytes-2.ensures, c.put_bytes.ensures)
+    (header-put a.out.now a.version a.tasks a.names a.total c.to_le_bytes.ensures c.to_le_bytes-2.ensures)

@@ -1,12 +1,11 @@
-use Rattle.std.proofs.Common.{arith, refl, [], ◌∷◌, ◌+◌}
-use Rattle.plan.proofs.Joined.{stored_more}
-use Rattle.plan.proofs.Canonical.{name-from}
+use Rattle.std.proofs.Common.{◌+◌, ◌-◌, length, arith}
+use Rattle.plan.specs.Layout.{name_width}
+use Rattle.plan.proofs.Canonical.{name-put}
 use Rattle.plan.proofs.writer.put_name.Goals as goal
 
-pub loop-k-preserved : goal.loop-k-preserved
-loop-k-preserved c =
-    let l = c.loop-k in
-    let next = name-from c.args.name.now l.k c.requires.1 c.loop-k-test.true in (
-      omega arith,
-      stored_more l.invariant.1 (c.name_byte.result ∷ []) _ (l.k + 1) (rw c.name_byte.ensures next) refl refl,
-    )
+pub returns : goal.returns
+returns c =
+    let at = c.args.at in
+    let name = c.args.name.now in
+    name-put c.args.out.now name at (at + name_width - (at + length name)) c.requires.0 c.requires.1 (omega arith)
+    c.put_bytes.ensures (c.fill.ensures.after (λ y h. h))

@@ -19,11 +19,9 @@ loop-i-preserved c =
     let e = c.requires.accepts in
     let h : l.i < task_count s = omega arith in
     let name = c.name_at.result.now in
-    let is = c.name_at.ensures.bytes in (
-      omega arith,
-      stored_more l.invariant.1 (name_bytes name) _ (name_width * (l.i + 1)) (names-next s e l.i h is)
-          (omega (arith, name-long name (name-fits s e l.i h is))) c.put_name.ensures,
-    )
+    let is = c.name_at.ensures.bytes in
+    stored_more l.invariant (name_bytes name) _ (name_width * (l.i + 1)) (names-next s e l.i h is)
+    (omega (arith, name-long name (name-fits s e l.i h is))) c.put_name.ensures
 
 pub returns : goal.returns
-returns c = stored-all c.loop-i.invariant.1 (omega (arith, all-names c.args.file.now c.requires.accepts))
+returns c = stored-all c.loop-i.invariant (omega (arith, all-names c.args.file.now c.requires.accepts))

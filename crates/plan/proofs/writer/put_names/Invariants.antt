@@ -1,4 +1,4 @@
-use Rattle.std.proofs.Common.{◌-◌, ◌*◌, ◌≤◌}
+use Rattle.std.proofs.Common.{◌*◌}
 use Rattle.plan.specs.Layout.{name_width}
 use Rattle.plan.specs.Files.{names_of}
 use Rattle.plan.specs.Canonical.{names_bytes}
@@ -6,8 +6,4 @@ use Rattle.plan.proofs.Joined.{Stored}
 use Rattle.plan.proofs.writer.put_names.Given as goal
 
 abbrev pub invariant-loop-i : goal.invariant-loop-i
-invariant-loop-i l =
-    (l.i ≤ l.tasks) × Stored (names_bytes (names_of l.file)) l.at l.initial.out l.out (name_width * l.i)
-
-abbrev pub decreases-loop-i : goal.decreases-loop-i
-decreases-loop-i l = l.tasks - l.i
+invariant-loop-i l = Stored (names_bytes (names_of l.file)) l.at l.initial.out l.out (name_width * l.i)

@@ -1,7 +1,8 @@
-use Rattle.plan.proofs.Writing.{writes-refused}
+use Rattle.std.proofs.lemmas.Result.{err_from_is_err_and}
+use Rattle.plan.proofs.Writing.{write_refused}
 use Rattle.plan.proofs.writer.write_plan.Goals as goal
 
-pub returns-then-fault-ne0 : goal.returns-then-fault-ne0
-returns-then-fault-ne0 c =
-    let load = c.load_plan-loaded in
-    writes-refused _ load.result (load.ensures.loads, load.ensures.usable) _ c.if-fault-ne0.true
+pub returns-in_err-plan : goal.returns-in_err-plan
+returns-in_err-plan c =
+    let p = err_from_is_err_and c.from_residual.result c.from_residual.ensures.1 in
+    rw (p.1, p.2) (write_refused c.args.file.now c.args.out.now _ c.in_err-plan.ensures.refuses)

@@ -1,5 +1,5 @@
 use Rattle.std.proofs.Common.{◌≡◌, length, ◌∙◌, arith}
-use Rattle.plan.specs.Table.{tasks_in}
+use Rattle.plan.specs.Promises.{plan_tasks}
 use Rattle.response.proofs.Answers.{all-written}
 use Rattle.response.proofs.times.analyse.Goals as goal
 
@@ -7,4 +7,5 @@ pub returns : goal.returns
 returns c =
     let v = c.loop-i.invariant in
     let e : c.loop-i.i ≡ length c.loop-i.times = omega arith in
-    all-written (tasks_in c.args.tasks.now) c.args.periods.now c.loop-i.times (v.0 ∙ c.requires.0.sized) (rw e at v.1.1)
+    all-written (plan_tasks c.args.assignment.now.plan.now) c.args.assignment.now.periods.now c.loop-i.times
+    (v.sized ∙ c.args.assignment.now.limits.sized) (rw e at v.written)

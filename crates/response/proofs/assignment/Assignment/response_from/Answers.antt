@@ -1,0 +1,31 @@
+use Rattle.std.proofs.Common.{arith}
+use Rattle.plan.specs.Promises.{plan_tasks}
+use Rattle.response.proofs.Exactness.{own-some, past, stops, goes_on}
+use Rattle.response.proofs.assignment.Assignment.response_from.Goals as goal
+
+pub returns-then-limit-start : goal.returns-then-limit-start
+returns-then-limit-start c =
+    let plan = c.args.self.now.plan.now in
+    let works = own-some (plan_tasks plan) plan.valid c.args.i c.requires.inside in
+    past works c.requires.begins (omega arith)
+
+pub loop-demand-preserved : goal.loop-demand-preserved
+loop-demand-preserved c =
+    let plan = c.args.self.now.plan.now in
+    let works = own-some (plan_tasks plan) plan.valid c.args.i c.requires.inside in
+    record {
+      begins = goes_on works c.loop-demand.invariant.begins c.demand-demand.ensures (omega arith);
+      early = omega arith;
+    }
+
+pub returns-then-demand-from : goal.returns-then-demand-from
+returns-then-demand-from c =
+    let plan = c.args.self.now.plan.now in
+    let works = own-some (plan_tasks plan) plan.valid c.args.i c.requires.inside in
+    stops works c.loop-demand.invariant.begins c.demand-demand.ensures (omega arith) (omega arith)
+
+pub returns-then-from-demand : goal.returns-then-from-demand
+returns-then-from-demand c =
+    let plan = c.args.self.now.plan.now in
+    let works = own-some (plan_tasks plan) plan.valid c.args.i c.requires.inside in
+    past works (goes_on works c.loop-demand.invariant.begins c.demand-demand.ensures (omega arith)) (omega arith)

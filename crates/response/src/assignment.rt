@@ -1,0 +1,99 @@
+ghost use Rattle.response.specs.Inner.{Limits};
+
+use super::tasks::{deadline, interference, own_demand};
+use plan::Plan;
+
+// A plan's tasks at given periods.
+#[derive(Clone, Copy)]
+pub struct Assignment<'a> {
+    pub plan: &'a Plan,
+    pub periods: &'a [u32],
+    ghost limits: { Limits plan.now.tasks.items periods.now },
+}
+
+impl<'a> Assignment<'a> {
+    ghost use Rattle.std.specs.Prelude.{◌≡◌, ◌≤◌, ◌<◌, length, IfSome};
+    ghost use Rattle.plan.specs.Promises.{plan_tasks};
+    ghost use Rattle.response.specs.Analysis.{demand, response_up_to, response_time, deadline_at, meets, schedulable};
+    ghost use Rattle.response.specs.Analysis.{response_times, first_missed};
+    ghost use Rattle.response.specs.Inner.{max_time, Climbs, some_time, some_task};
+
+    // The deadline of task i.
+    pub fn deadline(&self, i: usize) -> u32
+        requires { i < length self.now.periods.now }
+        ensures { result ≡ deadline_at (plan_tasks self.now.plan.now) self.now.periods.now i }
+    {
+        deadline(&self.plan.tasks[i], self.periods[i])
+    }
+
+    // What task i and the tasks above it demand by t.
+    fn demand(&self, i: usize, t: u32) -> u64
+        requires { (i < length self.now.periods.now) × (t ≤ max_time) }
+        ensures { result ≡ demand (plan_tasks self.now.plan.now) self.now.periods.now i t }
+    {
+        let tasks = self.plan.tasks.as_slice();
+        let mut sum = u64::from(own_demand(&tasks[i]));
+        for (task, &period) in tasks[..i].iter().zip(&self.periods[..i]) {
+            sum += interference(task, period, t);
+        }
+        sum
+    }
+
+    // The least t up to a limit that covers the demand of task i by t, none past it: the climb, from a time that no
+    // such t undercuts.
+    pub fn response_from(&self, i: usize, limit: u32, start: u32) -> Option<u32>
+        requires { Climbs limit (plan_tasks self.now.plan.now) self.now.periods.now i start }
+        ensures { result ≡ some_time (response_up_to limit (plan_tasks self.now.plan.now) self.now.periods.now i) }
+    {
+        if limit < start {
+            return None;
+        }
+        let mut t = start;
+        // A `loop` whose `break` yields t is the requirement's form of the climb.
+        loop {
+            let demand = self.demand(i, t);
+            if demand <= u64::from(t) {
+                break Some(t);
+            }
+            if u64::from(limit) < demand {
+                break None;
+            }
+            t = demand as u32;
+        }
+    }
+
+    // The response time of task i, none where it misses its deadline.
+    pub fn response_time(&self, i: usize) -> Option<u32>
+        requires { i < length self.now.periods.now }
+        ensures { result ≡ some_time (response_time (plan_tasks self.now.plan.now) self.now.periods.now i) }
+    {
+        let start = own_demand(&self.plan.tasks[i]);
+        self.response_from(i, self.deadline(i), start)
+    }
+
+    // Whether task i meets its deadline.
+    pub fn meets_deadline(&self, i: usize) -> bool
+        requires { i < length self.now.periods.now }
+        ensures { result ≡ meets (plan_tasks self.now.plan.now) self.now.periods.now i }
+    {
+        self.response_time(i).is_some()
+    }
+
+    // Whether every task meets its deadline. The lowest is tried first: it is mostly the one that misses.
+    pub fn is_schedulable(&self) -> bool
+        ensures { result ≡ schedulable (plan_tasks self.now.plan.now) self.now.periods.now }
+    {
+        (0..self.periods.len())
+            .rev()
+            .all(|i| self.meets_deadline(i))
+    }
+
+    // The first task that misses its deadline, counted from 0.
+    pub fn first_unschedulable(&self) -> Option<usize>
+        ensures first { some_task result
+            ≡ first_missed (response_times (plan_tasks self.now.plan.now) self.now.periods.now) }
+        ensures within { IfSome result (λ i. i < length self.now.periods.now) }
+    {
+        (0..self.periods.len()).find(|&i| !self.meets_deadline(i))
+    }
+}

@@ -1,2 +1,0 @@
--- Laws of BEST's call.
-mod Calling  -- the call
