@@ -18,7 +18,7 @@ abbrev pub Refuses : (Fault → List Task → ℕ → ℕ → ℕ → Outcome) �
 Refuses outcome = (f : Fault) (ts : List Task) (budget space work : ℕ)
     → passed f ≡ false → outcome f ts budget space work ≡ refused f
 
--- so does a call whose rules begin with the file's
+-- and so it is of an outcome whose rules begin with the file's
 pub refuses-first : (f rules : Fault) (x : Outcome) → passed f ≡ false
     → cond (passed (or_else f rules)) x (refused (or_else f rules)) ≡ refused f
 refuses-first f rules x e =

@@ -30,7 +30,7 @@ fn find_periods<O: Operation>(file: &[u8], budget: u64) -> Carried
 }
 
 // An operation on a file's tasks, its outcome into the caller's block; returns the block's number, or 25 for a block
-// that is not 100 bytes, which is left as it was.
+// that is not 100 bytes, which is left as it was. C is handed the number, so it is no error of an enum.
 pub fn fill_block<O: Operation>(file: &[u8], block: &mut [u8], budget: u64) -> u32
     ensures { Wrote O.outcome O.shows O.Claims file.now budget block.old block.new result }
 {

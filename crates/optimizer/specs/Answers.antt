@@ -1,4 +1,4 @@
--- What a call returns, as this paper's numbers.
+-- What a call returns, in the requirement's numbers.
 use Rattle.std.specs.Prelude.{◌≡◌, Bool, true, false, ℕ, Option, Some, None, Result, Ok, Err}
 use Rattle.plan.specs.declared.faults.Fault.{Fault}
 use Rattle.plan.specs.Faults.{fault, none}

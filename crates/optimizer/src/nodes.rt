@@ -6,7 +6,8 @@ use boundary::{Node, copied};
 use plan::{PerTask, Plan};
 
 // The open nodes of a search: so many assignments, each in its own stretch of the work space, which has room for more;
-// and the weights of their costs, copied out once, since they are read for every open node in every round.
+// and the weights of their costs, copied out once, since they are read for every open node in every round. The work space
+// is one flat array, as it is lent, and the requirement has the stretches in it.
 #[derive(Drop)]
 pub struct OpenNodes<'w> {
     pub work: &'w mut [u32],
