@@ -3,19 +3,19 @@ use mathlib.Core.Path.{◌≡◌, sym, ap, ◌∙◌}
 use mathlib.Core.Bool.{true, false, not, true≢false}
 use mathlib.Core.Logic.{inl, inr}
 use mathlib.Core.List.{List, [], ◌∷◌}
-use Prim.Native.Nat.{ℕ, suc, ◌+◌, ◌-◌, ◌*◌, ◌≤◌, ◌<◌}
+use Prim.Native.Nat.{ℕ, suc, ◌+◌, ◌-◌, ◌≤◌, ◌<◌}
 use native.Mathlib.Omega.{arith}
-use lib.ListN.{length, take, drop}
+use lib.ListN.{length, take}
 use lib.Seq.{length-take-le}
 use borrow.Author.Tests.{eqb-true, not-false}
 use Rattle.plan.specs.Lists.{tabulate}
 use Rattle.plan.specs.Faults.{none, fault_if, first_fault}
 use Rattle.plan.specs.Tasks.{max_tasks, Valid, no_task, AllValid}
-use Rattle.plan.specs.Layout.{task_count, name_width}
-use Rattle.plan.specs.Names.{name_field, name_ok}
+use Rattle.plan.specs.Layout.{task_count}
+use Rattle.plan.specs.Names.{name_start, name_field, name_ok}
 use Rattle.plan.specs.Files.{task_of, row_fault, task_fault, layout_fault, gap_fault, tasks_fault, same_name_fault, file_fault}
 use Rattle.plan.specs.Files.{repeat_fault, accepted, tasks_of, is_named}
-use Rattle.plan.specs.Inner.{areas_of, AreasOf, IsAt, name_length, NameAt}
+use Rattle.plan.specs.Inner.{areas_of, AreasOf, IsAt, name_length}
 use Rattle.plan.specs.Promises.{Names}
 use Rattle.plan.proofs.Tests.{bool, le-between}
 use Rattle.plan.proofs.Lists.{tabulate-length, tabulate-at}
@@ -107,23 +107,19 @@ no_name p s task p' name e b o n =
     record { block = b; offset = rw e o; bytes = rw e n; not_empty = λ t. absurd (true≢false (sym t ∙ e)) }
 
 -- and where there is: the name bytes, so many, that its field begins with
-module _ (s : List ℕ) (names i : ℕ) (w : NameAt s names i) where
-  pub name-inside : names + name_width * i + name_width ≤ length s
-  name-inside = omega (arith, (accepted-areas s w.accepts).names_to, w.inside, w.begins)
-
+module _ (s : List ℕ) (accepts : accepted s ≡ true) (i : ℕ) (inside : i < task_count s) where
   is_named_lem : is_named s (i + 1) ≡ true
-  is_named_lem = rw w.accepts (le-between 1 (i + 1) (task_count s) (omega arith) (omega (arith, w.inside)))
+  is_named_lem = rw accepts (le-between 1 (i + 1) (task_count s) (omega arith) (omega (arith, inside)))
 
   pub a-name :
-      (p p' : ℕ × ℕ) (field : List ℕ) (k : ℕ) → field ≡ take name_width (drop (names + name_width * i) s)
-      → IsAt p (names + name_width * i) p' → k ≡ name_length field → Names p s (i + 1) p' (take k field)
+      (p p' : ℕ × ℕ) (field : List ℕ) (k : ℕ) → field ≡ name_field s i
+      → IsAt p (name_start s i) p' → k ≡ name_length field → Names p s (i + 1) p' (take k field)
   a-name p p' field k f place e =
-      let is : name_field s i ≡ field = rw (← w.begins) (sym f) in
-      let ok : name_ok field ≡ true = rw is at (accepted-name s w.accepts i w.inside) in
+      let ok : name_ok field ≡ true = rw (← f) at (accepted-name s accepts i inside) in
       let j : i + 1 - 1 ≡ i = omega arith in
       record {
         block = place.block;
-        offset = rw (is_named_lem, j, ← w.begins) place.offset;
-        bytes = rw (is_named_lem, j, is, e) (sym (name-is field ok));
+        offset = rw (is_named_lem, j) place.offset;
+        bytes = rw (is_named_lem, j, ← f, e) (sym (name-is field ok));
         not_empty = λ t. rw (e, length-take-le (name_length field) field (name_length-le field)) (name-some field ok);
       }

@@ -6,7 +6,7 @@ use native.Mathlib.Nat.{pow-succ', mod-add-div}
 use native.Mathlib.Omega.{arith}
 use lib.ListN.{length, get_or, drop}
 use lib.Seq.{sets, drop-cons}
-use Rattle.std.specs.Int.{w16, w32, to_le_bytes}
+use Rattle.std.specs.Int.{w16, w32, w64, to_le_bytes}
 use Rattle.plan.specs.Words.{value_of, bytes_of, words_of, word}
 use Rattle.plan.proofs.Lists.{sets-append}
 use Rattle.plan.proofs.Joined.{joined_length, joined-from}
@@ -25,9 +25,9 @@ bytes-value (suc width) v h =
     rw e (mod-add-div v 256)
 
 -- the same bytes by their places
-pub two_bytes : (v : ℕ) → to_le_bytes w16 v ≡ bytes_of 2 v
+pub two-bytes : (v : ℕ) → to_le_bytes w16 v ≡ bytes_of 2 v
 unfolding bytes_of
-two_bytes v = refl
+two-bytes v = refl
 
 pub four-bytes : (v : ℕ) → to_le_bytes w32 v ≡ bytes_of 4 v
 unfolding bytes_of
@@ -35,6 +35,17 @@ four-bytes v =
     let a : v / 65536 ≡ v / 256 / 256 = omega arith in
     let b : v / 16777216 ≡ v / 256 / 256 / 256 = omega arith in
     rw (a, b)
+
+pub eight-bytes : (v : ℕ) → to_le_bytes w64 v ≡ bytes_of 8 v
+unfolding bytes_of
+eight-bytes v =
+    let a : v / 256 ^ 2 ≡ v / 256 / 256 = omega arith in
+    let b : v / 256 ^ 3 ≡ v / 256 / 256 / 256 = omega arith in
+    let c : v / 256 ^ 4 ≡ v / 256 / 256 / 256 / 256 = omega arith in
+    let d : v / 256 ^ 5 ≡ v / 256 / 256 / 256 / 256 / 256 = omega arith in
+    let e : v / 256 ^ 6 ≡ v / 256 / 256 / 256 / 256 / 256 / 256 = omega arith in
+    let f : v / 256 ^ 7 ≡ v / 256 / 256 / 256 / 256 / 256 / 256 / 256 = omega arith in
+    rw (a, b, c, d, e, f)
 
 -- a word byte by byte
 module _ (s : List ℕ) (at : ℕ) where

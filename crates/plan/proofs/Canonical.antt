@@ -26,7 +26,7 @@ use Rattle.plan.proofs.Tests.{le-or-lt, eq-or-ne, le-between, and_left, and_righ
 use Rattle.plan.proofs.Lists.{sets-append, sets-whole, written-over}
 use borrow.Rule.Slice.PartMut.{put_mid}
 use Rattle.plan.proofs.Joined.{joined_length, joined-from}
-use Rattle.plan.proofs.Bytes.{two_bytes, bytes-value, words-length, put_then}
+use Rattle.plan.proofs.Bytes.{two-bytes, bytes-value, words-length, put_then}
 use Rattle.plan.proofs.Rules.{run-all}
 use Rattle.plan.proofs.Gaps.{area-spans}
 use Rattle.plan.proofs.Versions.{row-range, row-front, version-range, all_plain}
@@ -129,7 +129,7 @@ pub header-put : (b : List ℕ) (v n names total : ℕ) {vs ns : List ℕ} → v
     → sets (sets (sets b 0 vs) 2 ns) 4 (words_of (header_width ∷ names ∷ total ∷ []))
     ≡ sets b 0 (header_bytes v n names total)
 unfolding header_bytes
-header-put b v n names total e f = rw (e ∙ two_bytes v, f ∙ two_bytes n) (simp put_then)
+header-put b v n names total e f = rw (e ∙ two-bytes v, f ∙ two-bytes n) (simp put_then)
 
 -- tasks and names that fit their rows and fields
 pub record Formable (ts : List Task) (ns : List (List ℕ)) : Type 0 where

@@ -1,7 +1,6 @@
 -- Laws of the plan file, by subject.
 pub mod Tests  -- tests as facts
 pub mod Lists  -- tabulated lists, and lists stored into others
-pub mod Fill  -- lists filled from the front
 pub mod Columns  -- a number of each task
 pub mod Rules  -- the first broken rule
 pub mod Numbers  -- refusals as numbers

@@ -1,7 +1,7 @@
 -- Lists that are tabulated: their length, elements, ends and images; and lists that are stored into others.
 use mathlib.Core.Path.{◌≡◌, refl, sym, ap, ◌∙◌}
 use mathlib.Core.Bool.{Bool, true, false, ◌||◌, ◌&&◌, or-false, and-true}
-use mathlib.Core.List.{List, [], ◌∷◌, ◌++◌, map, append-nil, append_assoc}
+use mathlib.Core.List.{List, [], ◌∷◌, ◌++◌, append-nil, append_assoc}
 use Prim.Native.Nat.{ℕ, zero, suc, ◌+◌, ◌≤◌, ◌<◌}
 use native.Mathlib.Omega.{arith}
 use lib.ListN.{length, get_or, set, drop_of_length-le}
@@ -29,10 +29,6 @@ pub tabulate-same : {A : Type 0} (f g : ℕ → A) (n i : ℕ) → ((k : ℕ) �
 tabulate-same f g zero i h = refl
 tabulate-same f g (suc n) i h =
     rw (h i (omega arith) (omega arith), tabulate-same f g n (suc i) (λ k p q. h k (omega arith) (omega arith)))
-
-pub map-tabulate : {A B : Type 0} (g : A → B) (f : ℕ → A) (n i : ℕ) → map g (tabulate f n i) ≡ tabulate (λ k. g (f k)) n i
-map-tabulate g f zero i = refl
-map-tabulate {A} {B} g f (suc n) i = ap (λ (l : List B). g (f i) ∷ l) (map-tabulate g f n (suc i))
 
 -- one list stored behind another
 pub sets-append : (l a b : List ℕ) (i : ℕ) → sets l i (a ++ b) ≡ sets (sets l i a) (i + length a) b

@@ -14,7 +14,7 @@ use Rattle.plan.specs.declared.tasks.Task.{Task}
 use Rattle.plan.specs.declared.record.Plan.{Plan}
 use Rattle.plan.specs.Faults.{none, or_else}
 use Rattle.plan.specs.Tasks.{AllValid}
-use Rattle.plan.specs.Layout.{names_at}
+use Rattle.plan.specs.Layout.{task_count}
 use Rattle.plan.specs.Files.{layout_fault, gap_fault, tasks_fault, same_name_fault, file_fault, accepted, tasks_of}
 use Rattle.plan.specs.Inner.{Decodes}
 use Rattle.plan.specs.Promises.{Loads, read_of, read_answer}
@@ -43,14 +43,14 @@ module _ (s : List ℕ) {located : List ℕ} {ts : List Task} (same : located �
   tasks-are : ts ≡ tasks_of s
   tasks-are = (rw same at d) ∙ sym (accepted-tasks s accepts)
 
-  pub read-some : 1 ≤ length ts
-  read-some = rw tasks-are (omega (arith, tasks-length s accepts, (accepted-areas s accepts).some))
+  pub some-read : 1 ≤ length ts
+  some-read = rw tasks-are (omega (arith, tasks-length s accepts, (accepted-areas s accepts).some))
 
-  pub read-valid : AllValid ts
-  read-valid = rw tasks-are (accepted-valid s)
+  pub valid-read : AllValid ts
+  valid-read = rw tasks-are (accepted-valid s)
 
-  pub loads-plan : (p : Plan) → p.tasks.items ≡ ts → p.names ≡ names_at s → Loads s p
-  loads-plan p t n = record { accepts = accepts; tasks = t ∙ tasks-are; names = n }
+  pub loads-plan : (p : Plan) → p.tasks.items ≡ ts → Loads s p
+  loads-plan p e = record { accepts = accepts; tasks = e ∙ tasks-are }
 
 -- a file that broke one, as an error says
 module _ (s : List ℕ) (e : ReadError) (refuses : read_error_fault e ≡ file_fault s) where
@@ -64,5 +64,5 @@ module _ (s : List ℕ) (e : ReadError) (refuses : read_error_fault e ≡ file_f
   read_refused = rw (refuses, refused-tasks s unaccepted)
 
 -- how many tasks a loaded plan has
-pub loaded-count : (s : List ℕ) (p : Plan) → Loads s p → length p.tasks.items ≡ length (tasks_of s)
-loaded-count s p l = ap length l.tasks
+pub loaded-count : {s : List ℕ} {p : Plan} → Loads s p → length p.tasks.items ≡ task_count s
+loaded-count {s} l = ap length l.tasks ∙ tasks-length s l.accepts

@@ -216,17 +216,6 @@ module _ {A : Type 0} (t : A → Bool) (all : List A) (d : A) where
     position-broken (Some k) (l, here, before) =
         (omega arith, omega arith, break k l (here d), passed-before k (omega arith) before)
 
--- where it is a task's element
-pub position-task : {A : Type 0} (t : A → Bool) (all : List A) (d : A) (number : ℕ) (r : Option ℕ)
-    → FirstPassing t all d r
-    → FirstTask (λ i. t (get_or all i d)) number (length all) r
-position-task t all d number None h =
-    first-task (λ i. t (get_or all i d)) number (length all) None (λ k l m. rw (h k d l m))
-position-task t all d number (Some k) (l, here, before) =
-    let rule = λ (i : ℕ). t (get_or all i d) in
-    first-task rule number (length all) (Some k)
-    (omega arith, l, rule-broken rule number k (here d), λ j a b. rw (before j d a b))
-
 -- a run with a fault: it is that of one of its rules
 pub run-some : (f : ℕ → Fault) (left i : ℕ) → ((first_from f left i).number ≡ 0 → ⊥) → (k : ℕ) × ((k < i + left) × (first_from f left i ≡ f k))
 unfolding first_from

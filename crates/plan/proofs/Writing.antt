@@ -16,12 +16,11 @@ use Rattle.std.specs.Prelude.{Ok, Err}
 use Rattle.plan.specs.declared.errors.ReadError.{ReadError}
 use Rattle.plan.specs.declared.errors.WriteError.TheVariants.{Read as Unread, SpaceLength}
 use Rattle.plan.specs.Errors.{read_error_fault}
-use Rattle.plan.specs.Layout.{header_width, row_size, name_width, task_count, names_at}
+use Rattle.plan.specs.Layout.{header_width, row_size, name_width, task_count}
 use Rattle.plan.specs.Files.{file_fault}
 use Rattle.plan.specs.Files.{accepted, tasks_of, names_of}
 use Rattle.plan.specs.Canonical.{version_for, header_bytes, rows_bytes, names_bytes, rows_to, names_to, canonical, canonical_of}
 use Rattle.plan.specs.Promises.{max_form, Written, written_of, write_answer, Writes}
-use Rattle.plan.specs.Inner.{HasNames}
 use Rattle.plan.proofs.Tests.{bool}
 use Rattle.plan.proofs.Versions.{row-range}
 use Rattle.plan.proofs.Accepted.{accepted-none, accepted-areas, tasks-length}
@@ -81,11 +80,11 @@ module _ (s : List ℕ) (accepts : accepted s ≡ true) {ts : List Task} (tasks 
     module _ {headed rowed : List ℕ} (h : length o ≡ size)
         (first : headed ≡ sets o 0 (header_bytes v n form_names_at size))
         (second : rowed ≡ sets headed header_width (rows_bytes v ts)) where
-      pub has-names : {names : ℕ} → names ≡ names_at s → HasNames s names n form_names_at rowed
-      has-names begins =
+      pub names-fit : form_names_at + name_width * n ≤ length rowed
+      names-fit =
           let e = ap length second ∙ length-sets headed header_width (rows_bytes v ts) in
           let f = ap length first ∙ length-sets o 0 (header_bytes v n form_names_at size) in
-          record { accepts = accepts; begins = begins; count = counted; fits = omega arith }
+          omega arith
 
       form-written : sets rowed form_names_at (names_bytes (names_of s)) ≡ canonical_of s
       form-written =

@@ -1,5 +1,5 @@
 -- What the inner functions promise, for their callers' proofs. A reader of the public calls needs none of it.
-use Rattle.std.specs.Prelude.{◌≡◌, true, false, List, [], ◌∷◌, not, ℕ, suc, ◌+◌, ◌-◌, ◌*◌, ◌≤◌, ◌<◌, eqb, length, get_or}
+use Rattle.std.specs.Prelude.{◌≡◌, true, false, List, [], ◌∷◌, not, ℕ, suc, ◌+◌, ◌-◌, ◌*◌, ◌≤◌, eqb, length, get_or}
 use Rattle.plan.specs.declared.tasks.Task.{Task}
 use Rattle.plan.specs.declared.layout.Areas.{Areas}
 use Rattle.plan.specs.declared.faults.Fault.{Fault}
@@ -7,21 +7,10 @@ use Rattle.std.specs.declared.ops.Range.{Range}
 use Rattle.plan.specs.Faults.{fault_if, first_from}
 use Rattle.plan.specs.Lists.{tabulate}
 use Rattle.plan.specs.Tasks.{max_tasks, max_file}
-use Rattle.plan.specs.Layout.{header_width, version, task_count, row_size, row_width_of, name_width}
+use Rattle.plan.specs.Layout.{header_width, version, task_count, row_size, row_width_of}
 use Rattle.plan.specs.Layout.{rows_at, rows_end_of, names_at, names_end_of, overlap}
 use Rattle.plan.specs.Names.{is_name_byte}
-use Rattle.plan.specs.Files.{task_of, accepted}
-
--- a field that rows of version 1 do not have, and the row of task i, of a file of a version
-pub record FurtherAt (s : List ℕ) (at v : ℕ) : Type 0 where
-  pub is : v ≡ version s
-  pub inside : (version s ≡ 1 → ⊥) → at + 4 ≤ length s
-
-pub record RowAt (s : List ℕ) (at v i : ℕ) : Type 0 where
-  pub is : v ≡ version s
-  pub five : at + 20 ≤ length s
-  pub seven : (version s ≡ 1 → ⊥) → at + 28 ≤ length s
-  pub few : i < max_tasks
+use Rattle.plan.specs.Files.{task_of}
 
 -- the areas of a file
 abbrev pub areas_of : List ℕ → Areas
@@ -78,20 +67,7 @@ name_length (b ∷ bs) = elim (is_name_byte b) [ true ↦ suc (name_length bs) |
 abbrev pub Decodes : List ℕ → List Task → Type 0
 Decodes s ts = ts ≡ tabulate (task_of s) (task_count s) 0
 
--- task i, counted from 0, of an accepted file has its name in the area that begins at names
-pub record NameAt (s : List ℕ) (names i : ℕ) : Type 0 where
-  pub accepts : accepted s ≡ true
-  pub inside : i < task_count s
-  pub begins : names ≡ names_at s
-
 -- there is room for the rows of so few tasks in a version
 pub record HasRows (v : ℕ) (ts : List Task) (out : List ℕ) : Type 0 where
   pub few : length ts ≤ max_tasks
   pub fits : header_width + row_size v * length ts ≤ length out
-
--- an accepted file has so many names in the area that begins at names, and there is room for them from at on
-pub record HasNames (s : List ℕ) (names n at : ℕ) (out : List ℕ) : Type 0 where
-  pub accepts : accepted s ≡ true
-  pub begins : names ≡ names_at s
-  pub count : n ≡ task_count s
-  pub fits : at + name_width * n ≤ length out

@@ -90,8 +90,7 @@ pub record Writes (s o o' : List ℕ) (r : Written) : Type 0 where
 abbrev pub plan_tasks : Plan → List Task
 plan_tasks p = p.tasks.items
 
--- a plan loaded, for the layers above: the tasks of an accepted file, and where its names are
+-- a plan loaded, for the layers above: the tasks of an accepted file
 pub record Loads (s : List ℕ) (p : Plan) : Type 0 where
   pub accepts : accepted s ≡ true
   pub tasks : plan_tasks p ≡ tasks_of s
-  pub names : p.names ≡ names_at s

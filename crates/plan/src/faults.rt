@@ -9,6 +9,7 @@ pub struct Fault {
 }
 
 impl Fault {
+    // What C's block and its like have where nothing is refused.
     pub fn none() -> Fault
         ensures { result ≡ none }
     {

@@ -8,6 +8,7 @@ mod tasks; // tasks.rt: one task
 mod record; // record.rt: the plan record and its limits
 mod layout; // layout.rt: header, areas and gaps
 mod located; // located.rt: a file and its areas
+mod plan_file; // plan_file.rt: an accepted file and its plan
 mod rows; // rows.rt: the row decoder
 mod names; // names.rt: name fields
 mod reader; // reader.rt: READ, NAME and the loading of a plan
@@ -20,7 +21,8 @@ pub use reader::{read_plan, task_name};
 pub use writer::write_plan;
 
 // for the layers above
-pub use reader::{load_plan, name_at};
+pub use plan_file::PlanFile;
+pub use reader::load_plan;
 pub use record::{PerTask, Plan};
 pub use tasks::Task;
 pub use words::{put_bytes, put_words};

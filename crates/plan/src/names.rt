@@ -1,5 +1,4 @@
-ghost use Rattle.std.specs.Prelude.{◌≡◌, ◌+◌, ◌*◌, ◌≤◌, ◌<◌, length, take, drop};
-ghost use Rattle.plan.specs.Layout.{name_width};
+ghost use Rattle.std.specs.Prelude.{◌≡◌, ◌≤◌, ◌<◌, length};
 ghost use Rattle.plan.specs.Names.{is_name_byte, name_ok};
 ghost use Rattle.plan.specs.Inner.{IsAt, name_length};
 
@@ -11,16 +10,6 @@ fn is_name_byte(b: u8) -> bool
     ensures { result ≡ is_name_byte b }
 {
     b.is_ascii_alphanumeric() || b == b'-'
-}
-
-// The name field of task i, counted from 0, of a file whose names begin at an offset.
-pub fn name_field(file: &[u8], names: usize, i: usize) -> &[u8]
-    requires { names + name_width * i + name_width ≤ length file.now }
-    ensures bytes { result.now ≡ take name_width (drop (names + name_width * i) file.now) }
-    ensures place { IsAt file.entry.ref_ptr (names + name_width * i) result.ref_ptr }
-{
-    let at = names + NAME_WIDTH * i;
-    &file[at..at + NAME_WIDTH]
 }
 
 // How many name bytes a field begins with.
@@ -43,16 +32,18 @@ pub fn name_ok(field: &[u8]) -> bool
 }
 
 impl<'a> Located<'a> {
-    ghost use Rattle.plan.specs.Names.{name_field, named_earlier};
+    ghost use Rattle.plan.specs.Names.{name_start, name_field, named_earlier};
     ghost use Rattle.plan.specs.Files.{same_name_fault};
     ghost use Rattle.plan.specs.Errors.{read_fault};
 
     // The name field of task i, counted from 0.
     pub fn name_field(&self, i: usize) -> &'a [u8]
         requires { i < self.now.areas.tasks }
-        ensures { result.now ≡ name_field self.now.file.now i }
+        ensures bytes { result.now ≡ name_field self.now.file.now i }
+        ensures place { IsAt self.now.file.ref_ptr (name_start self.now.file.now i) result.ref_ptr }
     {
-        name_field(self.file, self.areas.names.start, i)
+        let at = self.areas.names.start + NAME_WIDTH * i;
+        &self.file[at..at + NAME_WIDTH]
     }
 
     fn named_earlier(&self, i: usize) -> bool

@@ -1,13 +1,13 @@
-ghost use Rattle.std.specs.Prelude.{◌≡◌, ◌+◌, IfOk};
+ghost use Rattle.std.specs.Prelude.{◌≡◌, IfOk};
 ghost use Rattle.plan.specs.Errors.{read_fault};
 ghost use Rattle.plan.specs.Files.{file_fault};
 ghost use Rattle.plan.specs.Promises.{read_of, read_answer, Names, Loads};
-ghost use Rattle.plan.specs.Inner.{NameAt};
 
 use super::errors::ReadError;
 use super::layout::layout_of;
 use super::located::Located;
-use super::names::{name_field, name_length, name_ok};
+use super::names::{name_length, name_ok};
+use super::plan_file::PlanFile;
 use super::record::Plan;
 use super::tasks::Task;
 use arrayvec::ArrayVec;
@@ -36,33 +36,41 @@ impl Located<'_> {
     }
 }
 
-// The plan of a file, or its refusal by rules 1 to 11.
-pub fn load_plan(file: &[u8]) -> Result<Plan, ReadError>
+// A file with its plan, or its refusal by rules 1 to 11.
+pub fn load_plan(file: &[u8]) -> Result<PlanFile<'_>, ReadError>
     ensures refuses { read_fault result ≡ file_fault file.now }
-    ensures loads { IfOk result (λ plan. Loads file.now plan) }
+    ensures file { IfOk result (λ f. f.located.file ≡ file.entry) }
+    ensures loads { IfOk result (λ f. Loads file.now f.plan) }
 {
     let located = layout_of(file)?;
     located.check_gaps()?;
     let tasks = located.decode_tasks()?;
     located.check_same_names()?;
-    Ok(Plan::new(tasks, located.areas.names.start))
+    let plan = Plan::new(tasks);
+    Ok(PlanFile { located, plan })
 }
 
 // READ: how many tasks a file has, or its refusal.
 pub fn read_plan(file: &[u8]) -> Result<u32, ReadError>
     ensures { read_answer result ≡ read_of file.now }
 {
-    let plan = load_plan(file)?;
-    Ok(plan.tasks.len() as u32)
+    let loaded = load_plan(file)?;
+    Ok(loaded.plan.tasks.len() as u32)
 }
 
-// The name of task i, counted from 0, of an accepted file whose names begin at an offset.
-pub fn name_at(file: &[u8], names: usize, i: usize) -> &[u8]
-    requires { NameAt file.now names i }
-    ensures { Names file.entry.ref_ptr file.now (i + 1) result.ref_ptr result.now }
-{
-    let field = name_field(file, names, i);
-    &field[..name_length(field)]
+impl<'f> PlanFile<'f> {
+    ghost use Rattle.std.specs.Prelude.{◌+◌, ◌<◌, length};
+    ghost use Rattle.plan.specs.Promises.{plan_tasks};
+
+    // The name of task i, counted from 0.
+    pub fn name(&self, i: usize) -> &'f [u8]
+        requires { i < length (plan_tasks self.now.plan) }
+        ensures { let file = self.now.located.file in
+            Names file.ref_ptr file.now (i + 1) result.ref_ptr result.now }
+    {
+        let field = self.located.name_field(i);
+        &field[..name_length(field)]
+    }
 }
 
 // NAME: a task's name, counted from 1, as the part of the file that holds it; the empty part at its start, which is the
@@ -70,11 +78,11 @@ pub fn name_at(file: &[u8], names: usize, i: usize) -> &[u8]
 pub fn task_name(file: &[u8], task: u32) -> &[u8]
     ensures { Names file.entry.ref_ptr file.now task result.ref_ptr result.now }
 {
-    let Ok(plan) = load_plan(file) else {
+    let Ok(loaded) = load_plan(file) else {
         return &file[..0];
     };
-    if !(1..=plan.tasks.len()).contains(&(task as usize)) {
+    if !(1..=loaded.plan.tasks.len()).contains(&(task as usize)) {
         return &file[..0];
     }
-    name_at(file, plan.names, task as usize - 1)
+    loaded.name(task as usize - 1)
 }

@@ -8,11 +8,10 @@ use arrayvec::ArrayVec;
 // One number for each task, as the periods of an assignment.
 pub type PerTask = ArrayVec<u32, { Plan::MAX_TASKS }>;
 
-// A plan that its file's rules let pass: the tasks, highest priority first, and the offset of their names in the file.
+// A plan that the rules of a file let pass: the tasks, highest priority first.
 #[derive(Drop)]
 pub struct Plan {
     pub tasks: ArrayVec<Task, { Plan::MAX_TASKS }>,
-    pub names: usize,
     ghost some: { 1 ≤ length tasks.items },
     ghost few: { length tasks.items ≤ max_tasks },
     ghost valid: { AllValid tasks.items },
@@ -39,13 +38,13 @@ impl Plan {
     // The longest canonical form: sixteen tasks in version 2.
     pub const MAX_FORM: usize = 720;
 
-    pub fn new(tasks: ArrayVec<Task, { Plan::MAX_TASKS }>, names: usize) -> Plan
+    // The constructor that the requirement wants on the plan type; it asks for the type's own facts.
+    pub fn new(tasks: ArrayVec<Task, { Plan::MAX_TASKS }>) -> Plan
         requires some { 1 ≤ length tasks.items }
         requires valid { AllValid tasks.items }
-        ensures tasks { result.tasks ≡ tasks }
-        ensures names { result.names ≡ names }
+        ensures { result.tasks ≡ tasks }
     {
-        Plan { tasks, names }
+        Plan { tasks }
     }
 
     // A number of each task.

@@ -1,8 +1,7 @@
 ghost use Rattle.std.specs.Prelude.{◌≡◌, ◌<◌, IfOk};
-ghost use Rattle.plan.specs.Tasks.{further_field, row_at, max_tasks};
+ghost use Rattle.plan.specs.Tasks.{further_field, max_tasks};
 ghost use Rattle.plan.specs.Files.{row_fault};
 ghost use Rattle.plan.specs.Errors.{read_fault};
-ghost use Rattle.plan.specs.Inner.{FurtherAt, RowAt};
 
 use super::errors::ReadError;
 use super::located::Located;
@@ -25,34 +24,22 @@ fn checked(task: Task, i: usize) -> Result<Task, ReadError>
     Ok(task)
 }
 
-// A field that rows of version 1 do not have: 0 there.
-fn further_field(file: &[u8], at: usize, version: u16) -> u32
-    requires { FurtherAt file.now at version }
-    ensures { result ≡ further_field file.now at }
-{
-    if version == 1 { 0 } else { word4_at(file, at) }
-}
-
-// The row of task i, of a file of a version.
-fn row_at(file: &[u8], at: usize, version: u16, i: usize) -> Result<Task, ReadError>
-    requires { RowAt file.now at version i }
-    ensures refuses { read_fault result ≡ row_fault (row_at file.now at) i }
-    ensures decodes { IfOk result (λ t. t ≡ row_at file.now at) }
-{
-    let task = Task {
-        wcet: word4_at(file, at),
-        period_min: word4_at(file, at + 4),
-        period_max: word4_at(file, at + 8),
-        deadline_cap: word4_at(file, at + 12),
-        weight: word4_at(file, at + 16),
-        blocking: further_field(file, at + 20, version),
-        jitter: further_field(file, at + 24, version),
-    };
-    checked(task, i)
-}
-
 impl Located<'_> {
+    ghost use Rattle.std.specs.Prelude.{◌+◌, ◌≤◌, length};
+    ghost use Rattle.plan.specs.Layout.{version};
     ghost use Rattle.plan.specs.Files.{task_of};
+
+    // A field that rows of version 1 do not have: 0 there.
+    fn further_field(&self, at: usize) -> u32
+        requires { (version self.now.file.now ≡ 1 → ⊥) → at + 4 ≤ length self.now.file.now }
+        ensures { result ≡ further_field self.now.file.now at }
+    {
+        if self.areas.version == 1 {
+            0
+        } else {
+            word4_at(self.file, at)
+        }
+    }
 
     // The row of task i, counted from 0, by rules 8 and 9.
     pub fn row(&self, i: usize) -> Result<Task, ReadError>
@@ -60,8 +47,16 @@ impl Located<'_> {
         ensures refuses { read_fault result ≡ row_fault (task_of self.now.file.now i) i }
         ensures decodes { IfOk result (λ t. t ≡ task_of self.now.file.now i) }
     {
-        let areas = &self.areas;
-        let at = areas.rows.start + areas.row_width * i;
-        row_at(self.file, at, areas.version, i)
+        let at = self.areas.rows.start + self.areas.row_width * i;
+        let task = Task {
+            wcet: word4_at(self.file, at),
+            period_min: word4_at(self.file, at + 4),
+            period_max: word4_at(self.file, at + 8),
+            deadline_cap: word4_at(self.file, at + 12),
+            weight: word4_at(self.file, at + 16),
+            blocking: self.further_field(at + 20),
+            jitter: self.further_field(at + 24),
+        };
+        checked(task, i)
     }
 }

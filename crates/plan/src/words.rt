@@ -18,7 +18,8 @@ pub fn word4_at(s: &[u8], at: usize) -> u32
     u32::from_le_bytes([s[at], s[at + 1], s[at + 2], s[at + 3]])
 }
 
-// Writes bytes from an offset on.
+// Writes bytes from an offset on. Formats give the offset of each part, so that is what the writers pass on: of a buffer that
+// is cut into parts they would have to count what is left.
 pub fn put_bytes(out: &mut [u8], at: usize, bytes: &[u8])
     requires { at + length bytes.now ≤ length out.old }
     ensures { out.new ≡ sets out.old at bytes.now }

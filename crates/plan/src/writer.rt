@@ -1,15 +1,14 @@
 ghost use Rattle.std.specs.Prelude.{◌≡◌, ◌+◌, ◌≤◌, ◌<◌, length};
 ghost use Rattle.std.proofs.lemmas.List.Edits.{sets};
 ghost use Rattle.plan.specs.Layout.{header_width, name_width};
-ghost use Rattle.plan.specs.Files.{names_of};
-ghost use Rattle.plan.specs.Canonical.{is_plain, version_for, header_bytes, name_bytes, rows_bytes, names_bytes};
-ghost use Rattle.plan.specs.Promises.{Loads, Writes, write_answer};
-ghost use Rattle.plan.specs.Inner.{HasRows, HasNames};
+ghost use Rattle.plan.specs.Canonical.{is_plain, version_for, header_bytes, name_bytes, rows_bytes};
+ghost use Rattle.plan.specs.Promises.{Writes, write_answer};
+ghost use Rattle.plan.specs.Inner.{HasRows};
 
 use super::errors::WriteError;
 use super::layout::{HEADER_WIDTH, NAME_WIDTH, row_numbers, row_size, rows_size};
-use super::reader::{load_plan, name_at};
-use super::record::Plan;
+use super::plan_file::PlanFile;
+use super::reader::load_plan;
 use super::tasks::Task;
 use super::words::{put_bytes, put_words};
 
@@ -58,38 +57,44 @@ fn put_name(out: &mut [u8], at: usize, name: &[u8])
     out[at + name.len()..at + NAME_WIDTH].fill(0);
 }
 
-// The names of an accepted file, so many, which begin at an offset of it.
-fn put_names(out: &mut [u8], at: usize, file: &[u8], names: usize, tasks: usize)
-    requires { HasNames file.now names tasks at out.old }
-    ensures { out.new ≡ sets out.old at (names_bytes (names_of file.now)) }
-{
-    for i in 0..tasks {
-        put_name(out, at + NAME_WIDTH * i, name_at(file, names, i));
-    }
-}
+impl PlanFile<'_> {
+    ghost use Rattle.std.specs.Prelude.{◌*◌};
+    ghost use Rattle.plan.specs.Files.{names_of};
+    ghost use Rattle.plan.specs.Canonical.{names_bytes};
+    ghost use Rattle.plan.specs.Promises.{plan_tasks};
 
-// The canonical form of an accepted file's plan, into a space of just its length.
-fn put_form(file: &[u8], plan: &Plan, out: &mut [u8]) -> Result<usize, WriteError>
-    requires { Loads file.now plan.now }
-    ensures { Writes file.now out.old out.new (write_answer result) }
-{
-    let n = plan.tasks.len();
-    let version = version_for(&plan.tasks);
-    let names_at = HEADER_WIDTH + rows_size(version, n);
-    let size = names_at + NAME_WIDTH * n;
-    if out.len() != size {
-        return Err(WriteError::SpaceLength { size });
+    // The names of the tasks.
+    fn put_names(&self, out: &mut [u8], at: usize)
+        requires { at + name_width * length (plan_tasks self.now.plan) ≤ length out.old }
+        ensures { out.new ≡ sets out.old at (names_bytes (names_of self.now.located.file.now)) }
+    {
+        for i in 0..self.plan.tasks.len() {
+            put_name(out, at + NAME_WIDTH * i, self.name(i));
+        }
     }
-    put_header(out, version, n as u16, names_at as u32, size as u32);
-    put_rows(out, version, &plan.tasks);
-    put_names(out, names_at, file, plan.names, n);
-    Ok(size)
+
+    // The canonical form of the plan, into a space of just its length.
+    fn put_form(&self, out: &mut [u8]) -> Result<usize, WriteError>
+        ensures { Writes self.now.located.file.now out.old out.new (write_answer result) }
+    {
+        let tasks = self.plan.tasks.as_slice();
+        let n = tasks.len();
+        let version = version_for(tasks);
+        let names_at = HEADER_WIDTH + rows_size(version, n);
+        let size = names_at + NAME_WIDTH * n;
+        if out.len() != size {
+            return Err(WriteError::SpaceLength { size });
+        }
+        put_header(out, version, n as u16, names_at as u32, size as u32);
+        put_rows(out, version, tasks);
+        self.put_names(out, names_at);
+        Ok(size)
+    }
 }
 
 // WRITE: the canonical form of a file's plan; answers its length.
 pub fn write_plan(file: &[u8], out: &mut [u8]) -> Result<usize, WriteError>
     ensures { Writes file.now out.old out.new (write_answer result) }
 {
-    let plan = load_plan(file)?;
-    put_form(file, &plan, out)
+    load_plan(file)?.put_form(out)
 }

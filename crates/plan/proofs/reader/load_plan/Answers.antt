@@ -1,7 +1,7 @@
-use Rattle.std.proofs.Common.{arith, ap, ◌∙◌}
+use Rattle.std.proofs.Common.{arith, ap}
 use Rattle.std.proofs.lemmas.Result.{err_from_is_err_and}
 use Rattle.plan.proofs.Numbers.{read_error_first}
-use Rattle.plan.proofs.Loading.{file_rules, no-fault, read-some, read-valid, loads-plan}
+use Rattle.plan.proofs.Loading.{file_rules, no-fault, some-read, valid-read, loads-plan}
 use Rattle.plan.proofs.reader.load_plan.Goals as goal
 
 pub returns-in_err-located-clause-refuses : goal.returns-in_err-located-clause-refuses
@@ -38,29 +38,30 @@ returns-in_err-check_same_names-clause-refuses c =
     let e3 = c.in_ok-tasks.ensures.refuses in
     rw (p.1, p.2) (grind (arith, rules, same, e1, e2, e3, c.in_err-check_same_names.ensures, read_error_first))
 
-pub new-requires-clause-some : goal.new-requires-clause-some
-new-requires-clause-some c =
+pub new-plan-requires-clause-some : goal.new-plan-requires-clause-some
+new-plan-requires-clause-some c =
     let same = ap (λ f. f.now) c.in_ok-located.ensures.file in
-    read-some c.args.file.now same c.in_ok-located.ensures.refuses c.in_ok-check_gaps.ensures
+    some-read c.args.file.now same c.in_ok-located.ensures.refuses c.in_ok-check_gaps.ensures
     c.in_ok-tasks.ensures.refuses c.in_ok-check_same_names.ensures c.in_ok-tasks.ensures.decodes
 
-pub new-requires-clause-valid : goal.new-requires-clause-valid
-new-requires-clause-valid c =
+pub new-plan-requires-clause-valid : goal.new-plan-requires-clause-valid
+new-plan-requires-clause-valid c =
     let same = ap (λ f. f.now) c.in_ok-located.ensures.file in
-    read-valid c.args.file.now same c.in_ok-located.ensures.refuses c.in_ok-check_gaps.ensures
+    valid-read c.args.file.now same c.in_ok-located.ensures.refuses c.in_ok-check_gaps.ensures
     c.in_ok-tasks.ensures.refuses c.in_ok-check_same_names.ensures c.in_ok-tasks.ensures.decodes
+
+pub invariant_of-result : goal.invariant_of-result
+invariant_of-result c =
+    let same = ap (λ f. f.now) c.in_ok-located.ensures.file in
+    rw same
+    (record {
+      loads = loads-plan c.args.file.now same c.in_ok-located.ensures.refuses c.in_ok-check_gaps.ensures
+          c.in_ok-tasks.ensures.refuses c.in_ok-check_same_names.ensures c.in_ok-tasks.ensures.decodes c.new-plan.result
+          (ap (λ v. v.items) c.new-plan.ensures);
+    })
 
 pub returns-clause-refuses : goal.returns-clause-refuses
 returns-clause-refuses c =
     let same = ap (λ f. f.now) c.in_ok-located.ensures.file in
     no-fault c.args.file.now same c.in_ok-located.ensures.refuses c.in_ok-check_gaps.ensures
     c.in_ok-tasks.ensures.refuses c.in_ok-check_same_names.ensures c.in_ok-tasks.ensures.decodes
-
-pub returns-clause-loads : goal.returns-clause-loads
-returns-clause-loads c =
-    let same = ap (λ f. f.now) c.in_ok-located.ensures.file in
-    loads-plan c.args.file.now same c.in_ok-located.ensures.refuses c.in_ok-check_gaps.ensures
-    c.in_ok-tasks.ensures.refuses c.in_ok-check_same_names.ensures c.in_ok-tasks.ensures.decodes
-    c.new.result
-    (ap (λ v. v.items) c.new.ensures.tasks)
-    (c.new.ensures.names ∙ ap (λ a. a.names.start) c.in_ok-located.ensures.areas)

@@ -1,7 +1,7 @@
-use Rattle.std.proofs.Common.{◌≡◌, true, false, length, arith, rules, refl, ◌∙◌}
+use Rattle.std.proofs.Common.{◌≡◌, true, false, length, arith, rules, refl}
 use Rattle.plan.specs.Tasks.{between}
 use Rattle.plan.proofs.Tests.{between_le}
-use Rattle.plan.proofs.Accepted.{no_name, tasks-length}
+use Rattle.plan.proofs.Accepted.{no_name}
 use Rattle.plan.proofs.Loading.{loaded-count}
 use Rattle.plan.proofs.reader.task_name.Goals as goal
 
@@ -9,15 +9,15 @@ pub returns-then-not-contains : goal.returns-then-not-contains
 returns-then-not-contains c =
     let s = c.args.file.now in
     let loads = c.in-Ok.ensures.loads in
-    let n = loaded-count s c.in-Ok.plan loads ∙ tasks-length s loads.accepts in
-    let r : between 1 c.args.task (length c.in-Ok.plan.tasks.items) ≡ false = search rules in
+    let n = loaded-count loads in
+    let r : between 1 c.args.task (length c.in-Ok.loaded.plan.tasks.items) ≡ false = search rules in
     no_name c.args.file.ref_ptr s c.args.task _ _ (rw (loads.accepts, ← n) r) refl (omega arith) refl
 
-pub name_at-requires : goal.name_at-requires
-name_at-requires c =
+pub name-requires : goal.name-requires
+name-requires c =
     let s = c.args.file.now in
     let loads = c.in-Ok.ensures.loads in
-    let n = loaded-count s c.in-Ok.plan loads ∙ tasks-length s loads.accepts in
-    let r : between 1 c.args.task (length c.in-Ok.plan.tasks.items) ≡ true = search rules in
-    let inside = between_le 1 c.args.task (length c.in-Ok.plan.tasks.items) r in
-    record { accepts = loads.accepts; inside = omega arith; begins = loads.names }
+    let n = loaded-count loads in
+    let r : between 1 c.args.task (length c.in-Ok.loaded.plan.tasks.items) ≡ true = search rules in
+    let inside = between_le 1 c.args.task (length c.in-Ok.loaded.plan.tasks.items) r in
+    omega arith

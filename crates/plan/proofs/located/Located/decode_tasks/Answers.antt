@@ -11,7 +11,7 @@ returns-in_default-clause-refuses c =
 
 pub returns-then-not-name_ok-clause-refuses : goal.returns-then-not-name_ok-clause-refuses
 returns-then-not-name_ok-clause-refuses c =
-    let name = rw c.name_field.ensures at c.if-not-name_ok.ensures in
+    let name = rw c.name_field.ensures.bytes at c.if-not-name_ok.ensures in
     let count = c.args.self.now.placed.tasks in
     name-broken c.loop-i.invariant (omega (arith, count)) c.in-Ok.ensures.refuses (sym name)
 
@@ -22,7 +22,7 @@ push-requires c =
 
 pub loop-i-preserved : goal.loop-i-preserved
 loop-i-preserved c =
-    let name = rw c.name_field.ensures at c.if-not-name_ok.ensures in
+    let name = rw c.name_field.ensures.bytes at c.if-not-name_ok.ensures in
     let count = c.args.self.now.placed.tasks in
     rw (c.push.ensures.items, c.in-Ok.ensures.decodes)
     (decoding-next c.loop-i.invariant (omega (arith, count)) c.in-Ok.ensures.refuses (sym name))
