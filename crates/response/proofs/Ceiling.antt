@@ -1,7 +1,7 @@
 -- Rounding up: ceiling a p is the least k with a ≤ k * p, by the first two laws, from which the others come.
-use mathlib.Core.Path.{◌≡◌, ap}
+use mathlib.Core.Path.{◌≡◌}
 use mathlib.Core.Logic.{inl, inr}
-use Prim.Native.Nat.{ℕ, zero, suc, ◌+◌, ◌-◌, ◌*◌, ◌/◌, ◌≤◌, ◌<◌}
+use Prim.Native.Nat.{ℕ, zero, suc, ◌+◌, ◌*◌, ◌/◌, ◌≤◌, ◌<◌}
 use native.Mathlib.Omega.{arith}
 use native.Mathlib.Nat.{le_trans, mul-le-mul_left, div-lt_iff_lt-mul, lt-div-mul-add}
 use Rattle.plan.proofs.Tests.{le-or-lt}
@@ -32,11 +32,3 @@ ceiling-some a p h s = elim (le-or-lt 1 (ceiling a p)) [
   | inl l ↦ l
   | inr l ↦ let e : ceiling a p ≡ 0 = omega arith in let z : a ≤ 0 * p = rw e at (le-ceiling a p s) in omega arith
 ]
-
-pub ceiling-upto : (a p : ℕ) → 1 ≤ p → ceiling a p ≤ a
-ceiling-upto a p s = ceiling-le a p a s (omega (arith, mul-le-mul_left a s))
-
--- as the code computes it
-pub ceiling-is : (a p : ℕ) → 1 ≤ p → (a + p - 1) / p ≡ ceiling a p
-ceiling-is a zero s = absurd (let z : ⊥ = omega arith in z)
-ceiling-is a (suc p) s = let e : a + suc p - 1 ≡ a + p = omega arith in ap (λ (n : ℕ). n / suc p) e

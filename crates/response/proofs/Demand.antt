@@ -40,6 +40,24 @@ module _ (ts : List Task) where
   unfolding demand
   demand-less xs ys i t h = omega (arith, above-less xs ys i t h)
 
+  -- and one of them once more
+  module _ (xs ys : List ℕ) (i t : ℕ) (more : releases_at ys i t < releases_at xs i t) where
+    above-more : (k : ℕ) → i < k → ((j : ℕ) → j < k → releases_at ys j t ≤ releases_at xs j t)
+        → interference_above ts ys k t + (task_at ts i).wcet ≤ interference_above ts xs k t
+    above-more zero l h = let z : ⊥ = omega arith in absurd z
+    above-more (suc k) l h = elim (eq-or-ne i k) [
+      | inl e ↦
+          let m : suc (releases_at ys k t) ≤ releases_at xs k t = rw e at more in
+          rw e (omega (arith, mul-le-mul_left (task_at ts k).wcet m, above-less xs ys k t (λ j a. h j (omega arith))))
+      | inr n ↦
+          omega (arith, mul-le-mul_left (task_at ts k).wcet (h k (omega arith)), above-more k (omega arith) (λ j a. h j (omega arith)))
+    ]
+
+    pub demand-more : (k : ℕ) → i < k → ((j : ℕ) → j < k → releases_at ys j t ≤ releases_at xs j t)
+        → demand ts ys k t + (task_at ts i).wcet ≤ demand ts xs k t
+    unfolding demand
+    demand-more k l h = omega (arith, above-more k l h)
+
   pub demand-antitone : (xs ys : List ℕ) (i t : ℕ)
       → ((k : ℕ) → k < i → 1 ≤ get_or xs k 0) → ((k : ℕ) → k < i → get_or xs k 0 ≤ get_or ys k 0)
       → demand ts ys i t ≤ demand ts xs i t

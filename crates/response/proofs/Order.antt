@@ -9,7 +9,7 @@ use native.Mathlib.Omega.{arith}
 use native.Mathlib.Nat.{mul-le-mul_left, mul-le-mul}
 use lib.Dec.{eqb, ltb}
 use lib.ListN.{length, get_or, set}
-use borrow.Author.Tests.{ltb-true, eqb-true, lt-ltb, le-ltb, eq-eqb, ne_eqb}
+use borrow.Author.Tests.{ltb-true, eqb-true, lt-ltb, le-ltb, eq-eqb}
 use Rattle.plan.proofs.Tests.{bool, le-or-lt, eq-or-ne, both, not-false, and_left, and_right, or_cases}
 use Rattle.response.specs.Assignments.{cost, before, less}
 use Rattle.response.proofs.Dominance.{AtMost, at-most-cons}
@@ -21,9 +21,6 @@ module _ (x y : ℕ) (b : Bool) where
 
   pub first-eq : x ≡ y → ltb x y || (eqb x y && b) ≡ b
   first-eq h = rw (le-ltb x y (omega arith), eq-eqb x y h)
-
-  pub first-gt : y < x → ltb x y || (eqb x y && b) ≡ false
-  first-gt h = rw (le-ltb x y (omega arith), ne_eqb x y (λ e. omega arith))
 
   pub first-true : ltb x y || (eqb x y && b) ≡ true → (x < y) ⊎ ((x ≡ y) × (b ≡ true))
   first-true e = elim (or_cases (ltb x y) _ e) [

@@ -18,7 +18,8 @@ pub struct Times {
     pub first: Option<u32>,
 }
 
-// Rule 23: the first task whose period is outside its bounds.
+// Rule 23: the first task whose period is outside its bounds. A loop, since `position` of pairs would take them apart in
+// a closure and its answer in a match.
 fn check_bounds(plan: &Plan, periods: &[u32]) -> Result<(), TimesError>
     requires { length periods.now ≡ length (plan_tasks plan.now) }
     ensures { times_error result ≡ bounds_fault (plan_tasks plan.now) periods.now }
@@ -56,7 +57,7 @@ fn analyse(assignment: &Assignment, times: &mut [u32])
     }
 }
 
-// How many of the response times are 0.
+// How many of the response times are 0: of the numbers that were written, as their definition counts them.
 fn missed_count(times: &[u32]) -> u32
     requires { length times.now ≤ max_tasks }
     ensures { result ≡ missed_count times.now }
@@ -64,7 +65,7 @@ fn missed_count(times: &[u32]) -> u32
     times.iter().filter(|&&time| time == 0).count() as u32
 }
 
-// The first task whose response time is 0, counted from 1.
+// The first task whose response time is 0, counted from 1; of the same numbers.
 fn first_missed(times: &[u32]) -> Option<u32>
     requires { length times.now ≤ max_tasks }
     ensures is { number_or_none result ≡ first_missed times.now }
@@ -96,6 +97,6 @@ pub fn response_times(file: &[u8], periods: &[u32], times: &mut [u32]) -> Result
         periods.now times.old times.new (times_answer result) }
     ensures first { IfOk result (λ t. IfSome t.first (λ task. 1 ≤ task)) }
 {
-    let plan = plan::load_plan(file)?;
-    times_of(&plan, periods, times)
+    let loaded = plan::load_plan(file)?;
+    times_of(&loaded.plan, periods, times)
 }

@@ -1,8 +1,8 @@
-use Rattle.std.proofs.Common.{refl}
+use Rattle.std.proofs.Common.{refl, rules, tests}
 use Rattle.response.proofs.Refusals.{analysed}
 use Rattle.response.proofs.times.times_of.Goals as goal
 
 pub returns-clause-analyses : goal.returns-clause-analyses
 returns-clause-analyses c =
     analysed refl c.in_ok-check_periods.ensures c.args.plan.now.valid refl c.analyse.ensures
-    (rw (c.missed_count.ensures, c.first_missed.ensures.is))
+    (search (rules, tests))
