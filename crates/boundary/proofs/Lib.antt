@@ -2,6 +2,7 @@
 pub mod Maximal  -- maximal unschedulable assignments
 mod Found  -- response times, found or none
 mod OnePeriod  -- deadlines as one period changes
+mod Beginning  -- where a climb may begin
 mod Missing  -- the last period that misses
 mod Raising  -- the raising of a node
 pub mod Lowered  -- the lowering of a node

@@ -7,10 +7,9 @@ use Prim.Native.Nat.{ℕ, zero, suc, ◌+◌, ◌-◌, ◌*◌, ◌≤◌, ◌<�
 use native.Mathlib.Numerals.{add-one}
 use native.Mathlib.Omega.{arith}
 use native.Mathlib.Nat.{sub-zero, mul-le-mul, mul-le-mul_right}
-use lib.Dec.{eqb}
 use lib.ListN.{length, get_or, set, length-set, length-map}
 use lib.Seq.{get_or-set_same, get_or-set_other, set-get_or, ext_get_or}
-use borrow.Author.Tests.{leb-true, le-leb, lt-leb, ne_eqb}
+use borrow.Author.Tests.{leb-true}
 use Rattle.plan.specs.declared.tasks.Task.{Task}
 use Rattle.plan.specs.Tasks.{max_tasks, max_ticks, max_weight, task_at, AllValid, period_mins, period_maxs, weights}
 use Rattle.plan.proofs.Tests.{bool, le-or-lt, eq-or-ne, both, not-false}
@@ -25,11 +24,12 @@ use Rattle.response.proofs.Exactness.{own-some, own-begins}
 use Rattle.response.proofs.Ranges.{ranged, weight-at, light, some-within, limits-within, sustainable-within}
 use Rattle.response.proofs.Order.{cost-mono, cost-longer, cost-most}
 use Rattle.response.proofs.Demand.{demand-same}
-use Rattle.response.proofs.Sustainable.{schedulable-all, all-schedulable, begins-below}
+use Rattle.response.proofs.Sustainable.{schedulable-all, all-schedulable}
 use Rattle.response.proofs.Sustainable.{meets-set as meets-other}
 use Rattle.boundary.specs.Lowering.{lowered_from, lowered, lowering_from, lowering}
 use Rattle.boundary.specs.Misses.{Moved, LastMiss, BeginsAt, SeeksFrom}
 use Rattle.boundary.specs.Inner.{LowersNode, LowersUpTo, Lowers, begin_at}
+use Rattle.boundary.proofs.Beginning.{begins-next}
 use Rattle.boundary.proofs.OnePeriod.{response-early, response-begins}
 
 -- a schedulable assignment within the bounds, at least the node
@@ -103,40 +103,18 @@ module _ (test : List ℕ → Bool) (node x : List ℕ) (i v : ℕ) (e : test (s
   lowered_is a b h = lowered_from-is (suc (get_or x i 0 - get_or node i 0)) (get_or node i 0) a (omega arith) h
 
 -- from the longest periods
-pub lowers-long : {ts : List Task} {node : List ℕ} → LowersNode ts node → length node ≡ length ts
-lowers-long {ts} {node} h = (within-true ts node h.bounded).sized
-
-pub lowers-node : {ts : List Task} {node : List ℕ} → LowersNode ts node → Lowers ts node (period_maxs ts)
-lowers-node {ts} {node} h = record {
+pub lowers-node : {ts : List Task} → AllValid ts → {node : List ℕ} → LowersNode ts node → Lowers ts node (period_maxs ts)
+lowers-node {ts} v {node} h = record {
   given = h;
-  within = true-within ts (period_maxs ts) (maxs-within ts (ranged ts h.valid));
+  within = true-within ts (period_maxs ts) (maxs-within ts (ranged ts v));
   above = (within-true ts node h.bounded).high;
   met = h.top;
 }
-
-pub lowering-long : {ts : List Task} {node : List ℕ} → LowersNode ts node
-    → length (lowering (schedulable ts) (period_maxs ts) node) ≡ length ts
-lowering-long {ts} {node} h =
-    (lowering-meets (schedulable ts) (within-true ts node h.bounded) (ranged ts h.valid) h.top).within.sized
 
 pub lowering-node-is : (ts : List Task) (node : List ℕ)
     → lowering_from (length node) (schedulable ts) node (period_maxs ts) 0 ≡ lowering (schedulable ts) (period_maxs ts) node
 unfolding lowering
 lowering-node-is ts node = refl
-
--- where the climb of the next task may begin
-begins-next : {ts : List Task} {i : ℕ} → AllValid ts → (x : List ℕ) → ((k : ℕ) → k < length ts → 1 ≤ get_or x k 0) → suc i < length ts
-    → {limit most r : ℕ} → r ≤ limit → Begins limit ts x i r → Begins most ts x (suc i) (begin_at ts (suc i) r)
-begins-next {ts} {i} v x p l h b =
-    let own = own_demand (task_at ts (suc i)) in
-    let blocking = (task_at ts i).blocking in
-    let later : eqb (suc i) 0 ≡ false = ne_eqb (suc i) 0 (λ z. omega arith) in
-    let here : suc i - 1 ≡ i = omega arith in
-    elim (le-or-lt blocking own) [
-      | inl o ↦ rw (later, here, le-leb blocking own o)
-          (begins-below ts x i (suc i) (omega arith) (λ k c. p k (omega arith)) o (own-some ts v i (omega arith)) h b)
-      | inr o ↦ rw (later, here, lt-leb blocking own o) (own-begins _ ts x (suc i) (own-some ts v (suc i) l))
-    ]
 
 -- as the code lowers the periods x of the tasks from task i on; own is the response time of the task above, and the climbs of the
 -- lowest may begin at start; fixed has the periods that are lowered and the node's from task i on
@@ -157,19 +135,20 @@ pub record Lowering (ts : List Task) (node goal : List ℕ) (i : ℕ) (x : List 
   pub costs : total ≡ cost (weights ts) fixed
 
 module _ {ts : List Task} {node : List ℕ} where
-  pub lowering-start : {x : List ℕ} → Lowers ts node x → {own : ℕ} → own ≡ own_demand (task_at ts (length ts - 1))
+  pub lowering-start : 1 ≤ length ts → length ts ≤ max_tasks → AllValid ts → {x : List ℕ} → Lowers ts node x
+      → {own : ℕ} → own ≡ own_demand (task_at ts (length ts - 1))
       → {c : ℕ} → c ≡ cost (weights ts) node → Lowering ts node (lowering_from (length node) (schedulable ts) node x 0) 0 x c 0 own
-  lowering-start {x} h e ec =
+  lowering-start s few v {x} h e ec =
       let w = within-true ts x h.within in
       record {
-        valid = h.given.valid;
-        few = h.given.few;
+        valid = v;
+        few = few;
         bounded = within-true ts node h.given.bounded;
         meets = record { within = w; above = h.above; met = h.met };
         upto = omega arith;
         early = omega arith;
-        begins = λ l. own-begins _ ts x 0 (own-some ts h.given.valid 0 l);
-        lowest = rw (w.sized, e) (own-begins _ ts x (length ts - 1) (own-some ts h.given.valid (length ts - 1) (omega (arith, h.given.some))));
+        begins = λ l. own-begins _ ts x 0 (own-some ts v 0 l);
+        lowest = rw (w.sized, e) (own-begins _ ts x (length ts - 1) (own-some ts v (length ts - 1) (omega (arith, s))));
         leads = rw (sub-zero (length node));
         fixed = node;
         long = (within-true ts node h.given.bounded).sized;
@@ -248,15 +227,13 @@ module _ {ts : List Task} {node : List ℕ} where
 
         pub lowering-seeks : SeeksFrom ts x i r (get_or node i 0 - 1) (get_or x i 0) start
         lowering-seeks = record {
-          below = record {
-            range = record {
-              limits = lowering-limits;
-              inside = inside;
-              order = omega (arith, g.meets.above i);
-              ticks = lowering-limits.most i;
-            };
-            begins = rw (set-get_or x i 0) g.lowest;
+          range = record {
+            limits = lowering-limits;
+            inside = inside;
+            order = omega (arith, g.meets.above i);
+            ticks = lowering-limits.most i;
           };
+          begins = rw (set-get_or x i 0) g.lowest;
           works = some;
           is = rw (set-get_or x i 0) is;
         }

@@ -11,17 +11,19 @@ use lib.ListN.{length, get_or, set, length-set}
 use lib.Seq.{get_or-set_same, set-set}
 use borrow.Author.Tests.{lt-leb, le-leb, leb-true}
 use Rattle.plan.specs.declared.tasks.Task.{Task}
-use Rattle.plan.specs.Tasks.{max_ticks, task_at}
+use Rattle.plan.specs.Tasks.{max_ticks, task_at, Valid}
 use Rattle.plan.proofs.Tests.{le-or-lt, eq-or-ne, and_left, and_right}
 use Rattle.response.specs.Analysis.{own_demand, deadline_at, response_up_to, response_time, meets}
 use Rattle.response.specs.Claims.{Covers}
-use Rattle.response.specs.Inner.{Limits, Climbs}
+use Rattle.response.specs.Inner.{max_time, Limits, Climbs}
 use Rattle.response.proofs.Limits.{limits-set}
 use Rattle.response.proofs.Exactness.{own-some, own-begins}
 use Rattle.response.proofs.Sustainable.{covers-above, covers-meets, schedulable-none}
 use Rattle.boundary.specs.Misses.{Range, Moved, LastMiss, BeginsAt, settles, Responds, Seeks, SeeksBelow, SeeksFrom}
-use Rattle.boundary.proofs.OnePeriod.{alike, alike-le, alike-releases, response-early, deadline-other, own_meets}
-use Rattle.boundary.proofs.OnePeriod.{released-covers, shorter-begins, response-begins}
+use Rattle.boundary.specs.Inner.{begin_below}
+use Rattle.boundary.proofs.Beginning.{begins-under}
+use Rattle.boundary.proofs.OnePeriod.{alike, alike-le, alike-releases, alike-more, response-early, deadline-other, own_meets}
+use Rattle.boundary.proofs.OnePeriod.{released-covers, released-begins, shorter-begins, response-begins}
 
 -- changes of period i
 module _ {ts : List Task} {i : ℕ} where
@@ -87,8 +89,9 @@ pub record Probes (ts : List Task) (u : List ℕ) (i k low most limit : ℕ) : T
   pub inside : k < length u
   pub limited : limit ≡ deadline_at ts u k
 
--- the last found, one from which on task k is done by a response time, and where its climbs between the two may begin
-pub record Probing (ts : List Task) (u : List ℕ) (i k low most limit : ℕ) (u' : List ℕ) (last high response turn : ℕ) : Type 0 where
+-- the last found, one from which on task k is done by a response time, where its climbs right past the last may begin,
+-- and where those between the two may
+pub record Probing (ts : List Task) (u : List ℕ) (i k low most limit : ℕ) (u' : List ℕ) (last high response begin turn : ℕ) : Type 0 where
   pub given : Probes ts u i k low most limit
   pub moved : Moved ts i u u'
   pub above : low ≤ last
@@ -98,6 +101,7 @@ pub record Probing (ts : List Task) (u : List ℕ) (i k low most limit : ℕ) (u
   pub misses : low < last → meets ts (set u i last) k ≡ false
   pub covers : (y : ℕ) → high ≤ y → y ≤ most → Covers (deadline_at ts (set u i y) k) ts (set u i y) k response
   pub begins : (y : ℕ) → last < y → y ≤ most → y ≤ max high (suc last) → BeginsAt ts u i y k response
+  pub between : (y : ℕ) → last < y → y < high → BeginsAt ts u i y k begin
 
 module _ {ts : List Task} {u : List ℕ} {i k low most : ℕ} where
   pub seeks-probes : {start limit : ℕ} → Seeks ts u i k low most start → limit ≡ deadline_at ts u k → Probes ts u i k low most limit
@@ -117,7 +121,7 @@ module _ {ts : List Task} {u : List ℕ} {i k low most : ℕ} where
     shorter : {p t : ℕ} → BeginsAt ts u i p k t → (y : ℕ) → 1 ≤ y → y ≤ most → y ≤ p → BeginsAt ts u i y k t
     shorter b y c d h = shorter-begins ts u i k (some-set y c d) h b
 
-    pub probing-start : {start : ℕ} → BeginsAt ts u i most k start → Probing ts u i k low most limit u low (most + 1) start 0
+    pub probing-start : {start : ℕ} → BeginsAt ts u i most k start → Probing ts u i k low most limit u low (most + 1) start start 0
     probing-start b = record {
       given = q;
       moved = moved_none q.range.limits;
@@ -128,9 +132,11 @@ module _ {ts : List Task} {u : List ℕ} {i k low most : ℕ} where
       misses = λ l. let z : ⊥ = omega arith in absurd z;
       covers = λ y c d. let z : ⊥ = omega arith in absurd z;
       begins = λ y c d e. shorter b y (omega arith) d d;
+      between = λ y c d. shorter b y (omega arith) (omega arith) (omega arith);
     }
 
-  module _ {limit : ℕ} {u' : List ℕ} {last high response turn : ℕ} (g : Probing ts u i k low most limit u' last high response turn) where
+  module _ {limit : ℕ} {u' : List ℕ} {last high response begin turn : ℕ}
+      (g : Probing ts u i k low most limit u' last high response begin turn) where
     abbrev q : Probes ts u i k low most limit
     q = g.given
 
@@ -164,18 +170,24 @@ module _ {ts : List Task} {u : List ℕ} {i k low most : ℕ} where
       fixed : limit ≡ deadline_at ts (set u i p) k
       fixed = q.limited ∙ sym (deadline-other ts u i k p (λ e. omega (arith, q.below)))
 
-      pub probing-climbs : Climbs limit ts (set u' i p) k response
+      pub probing-climbs : Climbs limit ts (set u' i p) k begin
       probing-climbs = record {
         inside = k-inside q;
         ends = omega (arith, q.limited, q.range.limits.most k);
-        begins = rw (g.moved.only p, fixed) (g.begins p a.0 (omega (arith, g.under)) (omega arith));
+        begins = rw (g.moved.only p, fixed) (g.between p a.0 a.1);
       }
 
       module _ {r : ℕ} (is : r ≡ response_up_to limit ts (set u' i p) k) where
         response-is : r ≡ response_time ts (set u i p) k
         response-is = rw (g.moved.only p, fixed) at is
 
-        pub probing-miss : r ≡ 0 → Probing ts u i k low most limit (set u' i p) p high response (turn + 1)
+        pub probing-small : r + (task_at ts i).wcet ≤ max_ticks + max_ticks
+        probing-small =
+            let valid = q.range.limits.valid i (omega (arith, q.range.inside, q.range.limits.sized)) in
+            let early = response-early limit ts (set u' i p) k (works q) in
+            omega (arith, is, early, q.limited, q.range.limits.most k, valid.wcet_most)
+
+        pub probing-miss : r ≡ 0 → Probing ts u i k low most limit (set u' i p) p high response begin (turn + 1)
         probing-miss e = record {
           given = q;
           moved = probing-moved;
@@ -186,11 +198,14 @@ module _ {ts : List Task} {u : List ℕ} {i k low most : ℕ} where
           misses = λ l. lt-leb 1 (response_time ts (set u i p) k) (omega (arith, response-is));
           covers = g.covers;
           begins = λ y c d h. g.begins y (omega arith) d (omega arith);
+          between = λ y c d. g.between y (omega arith) d;
         }
 
-        pub probing-meet : 1 ≤ r → Probing ts u i k low most limit (set u' i p) last (alike r p) r (turn + 1)
+        pub probing-meet : 1 ≤ r
+            → Probing ts u i k low most limit (set u' i p) last (alike r p) r (r + (task_at ts i).wcet) (turn + 1)
         probing-meet s =
-            let l = alike-le r p s (omega arith) in record {
+            let l = alike-le r p s (omega arith) in
+            let at = response-begins _ ts (set u i p) k (works q) response-is s in record {
               given = q;
               moved = probing-moved;
               above = g.above;
@@ -201,7 +216,10 @@ module _ {ts : List Task} {u : List ℕ} {i k low most : ℕ} where
               covers = λ y c d.
                   released-covers ts u i q.range.inside k q.below (works q) p response-is s y
                   (alike-releases r p s (omega arith) y c);
-              begins = λ y c d h. shorter q (response-begins _ ts (set u i p) k (works q) response-is s) y (omega arith) d (omega arith);
+              begins = λ y c d h. shorter q at y (omega arith) d (omega arith);
+              between = λ y c d.
+                  released-begins ts u i q.range.inside k q.below (works q) p response-is s y
+                  (shorter q at y (omega arith) (omega (arith, g.under)) (omega arith)) (alike-more r p s (omega arith) y (omega arith) d);
             }
 
 -- the same of the tasks between task i and task k, from the lowest up: those from task j on are done, and so is every other that the
@@ -251,43 +269,57 @@ module _ {ts : List Task} {u : List ℕ} {i k low most : ℕ} where
         (λ x a b d y c e. rw (g.moved.only y) at
         (s.meet x a b (moved-settles g.moved x _ r (λ z. omega arith) ∙ rw q at d) y c e))
 
--- the same of all tasks below task i
-module _ {ts : List Task} {u : List ℕ} {i low most start : ℕ} (q : SeeksBelow ts u i low most start) where
-  abbrev lowest : ℕ
-  lowest = length u - 1
-
-  pub begins-past : (v : ℕ) → v < most → BeginsAt ts u i (suc v) lowest start
-  begins-past v h =
-      shorter-begins ts u i lowest
-      (λ j l. (limits-set q.range.limits i (suc v) (omega arith) (omega (arith, q.range.ticks))).some j
-      (omega (arith, length-set u i (suc v)))) h q.begins
+-- the same of all tasks below task i, the lowest first: its climb right past what is found may begin where one at the
+-- greatest period may
+pub begins-past : {ts : List Task} {u : List ℕ} {i low most start : ℕ} → Range ts u i low most
+    → BeginsAt ts u i most (length u - 1) start → (v : ℕ) → v < most → BeginsAt ts u i (suc v) (length u - 1) start
+begins-past {ts} {u} {i} r b v h =
+    shorter-begins ts u i (length u - 1)
+    (λ j l. (limits-set r.limits i (suc v) (omega arith) (omega (arith, r.ticks))).some j
+    (omega (arith, length-set u i (suc v)))) h b
 
 -- the same of task i, too: it meets its deadline from its response time on
 module _ {ts : List Task} {u : List ℕ} {i own low most start : ℕ} (q : SeeksFrom ts u i own low most start) where
-  abbrev range : Range ts u i low most
-  range = q.below.range
-
   i-inside : i < length ts
-  i-inside = omega (arith, range.inside, range.limits.sized)
+  i-inside = omega (arith, q.range.inside, q.range.limits.sized)
 
   i-works : 1 ≤ own_demand (task_at ts i)
-  i-works = own-some ts range.limits.valid i i-inside
+  i-works = own-some ts q.range.limits.valid i i-inside
 
-  pub from-below : {from : ℕ} → from ≡ max low (own - 1) → SeeksBelow ts u i from most start
-  from-below e = record {
-    range = record {
-      limits = range.limits;
-      inside = range.inside;
-      order =
-          let early = response-early (deadline_at ts (set u i most) i) ts (set u i most) i i-works in
-          omega (arith, range.order, q.is, get_or-set_same u i most 0 range.inside);
-      ticks = range.ticks;
-    };
-    begins = q.below.begins;
-  }
+  own-early : own ≤ deadline_at ts (set u i most) i
+  own-early = rw q.is (response-early (deadline_at ts (set u i most) i) ts (set u i most) i i-works)
+
+  own-most : own ≤ most
+  own-most = omega (arith, own-early, get_or-set_same u i most 0 q.range.inside)
+
+  pub from-begins : i < length u - 1 → Valid (task_at ts (length u - 1)) × (own ≤ max_time)
+  from-begins h = (q.range.limits.valid (length u - 1) (omega (arith, q.range.limits.sized)), omega (arith, own-most, q.range.ticks))
+
+  lowest-begins : i < length u - 1
+      → BeginsAt ts u i most (length u - 1) (begin_below (task_at ts (length u - 1)) (task_at ts i) own)
+  lowest-begins h =
+      let most-set = limits-set q.range.limits i most (omega (arith, own-most, q.works)) q.range.ticks in
+      begins-under q.range.limits.valid (set u i most) (λ k c. most-set.some k (omega (arith, most-set.sized)))
+      h (omega (arith, q.range.limits.sized)) own-early
+      (response-begins (deadline_at ts (set u i most) i) ts (set u i most) i i-works q.is q.works)
+
+  pub from-below : {from begin : ℕ} → from ≡ max low (own - 1) → i < length u - 1
+      → begin ≡ begin_below (task_at ts (length u - 1)) (task_at ts i) own → SeeksBelow ts u i from most (max start begin)
+  from-below {from} {begin} e h b =
+      let c = lowest-begins h in
+      record {
+        range = record {
+          limits = q.range.limits;
+          inside = q.range.inside;
+          order = omega (arith, q.range.order, own-most);
+          ticks = q.range.ticks;
+        };
+        below = h;
+        begins = rw b (record { some = omega (arith, c.some); below = λ t d. omega (arith, q.begins.below t d, c.below t d) });
+      }
 
   from-own : (v : ℕ) → v ≤ most → meets ts (set u i v) i ≡ leb own v
-  from-own = own_meets ts u i range.inside most i-works q.is q.works
+  from-own = own_meets ts u i q.range.inside most i-works q.is q.works
 
   pub from_last : {from v : ℕ} → from ≡ max low (own - 1)
       → LastMiss ts u i (suc i) (length u) from most v → LastMiss ts u i i (length u) low most v
@@ -303,3 +335,12 @@ module _ {ts : List Task} {u : List ℕ} {i own low most start : ℕ} (q : Seeks
       | inr n ↦ l.past j (omega arith) b y (omega arith) d
     ];
   }
+
+  -- with no task below
+  pub from-alone : {from : ℕ} → from ≡ max low (own - 1) → length u - 1 ≤ i → LastMiss ts u i i (length u) low most from
+  from-alone {from} e h = from_last e (record {
+    above = omega arith;
+    upto = omega (arith, q.range.order, own-most);
+    misses = λ l. let z : ⊥ = omega arith in absurd z;
+    past = λ j a b. let z : ⊥ = omega arith in absurd z;
+  })

@@ -2,7 +2,7 @@
 use mathlib.Core.Path.{◌≡◌, sym, ap, ◌∙◌}
 use mathlib.Core.Logic.{inl, inr}
 use mathlib.Core.List.{List}
-use Prim.Native.Nat.{ℕ, suc, ◌≤◌, ◌<◌}
+use Prim.Native.Nat.{ℕ, suc, ◌+◌, ◌≤◌, ◌<◌}
 use native.Mathlib.Omega.{arith}
 use native.Mathlib.Nat.{le_trans, mul-le-mul_left, lt_of_mul-lt-mul_right}
 use lib.Dec.{leb}
@@ -14,15 +14,15 @@ use Rattle.std.proofs.lemmas.Grind.{div_ceil_times}
 use Rattle.plan.specs.declared.tasks.Task.{Task}
 use Rattle.plan.specs.Tasks.{task_at}
 use Rattle.plan.proofs.Tests.{le-or-lt, eq-or-ne, not-false}
-use Rattle.response.specs.Analysis.{ceiling, own_demand, deadline, deadline_at, response_up_to, response_time, meets}
+use Rattle.response.specs.Analysis.{ceiling, own_demand, demand, deadline, deadline_at, response_up_to, response_time, meets}
 use Rattle.response.specs.Claims.{Covers}
 use Rattle.response.specs.Inner.{Begins}
 use Rattle.boundary.specs.Misses.{BeginsAt}
 use Rattle.response.proofs.Ceiling.{ceiling-le, le-ceiling, ceiling-some}
-use Rattle.response.proofs.Demand.{demand-less, demand-same}
+use Rattle.response.proofs.Demand.{demand-monotone, demand-less, demand-more, demand_own, demand-same}
 use Rattle.response.proofs.Exactness.{response-exact}
 use Rattle.response.proofs.Dominance.{set-mono}
-use Rattle.response.proofs.Sustainable.{covers_up, meets-covers, covers-meets}
+use Rattle.response.proofs.Sustainable.{response-same, covers_up, meets-covers, covers-meets}
 
 -- the least period at which a task is released as often before time t as at period p
 abbrev pub alike : ℕ → ℕ → ℕ
@@ -37,6 +37,16 @@ module _ (t p : ℕ) (s : 1 ≤ t) (h : 1 ≤ p) where
       let m = ceiling-some t p s h in
       ceiling-le t q (ceiling t p) (omega (arith, ceiling-some t (ceiling t p) s m))
       (le_trans (le-ceiling t (ceiling t p) m) (omega (arith, mul-le-mul_left (ceiling t p) l)))
+
+  -- at a shorter one once more at least
+  pub alike-more : (q : ℕ) → 1 ≤ q → q < alike t p → ceiling t p < ceiling t q
+  alike-more q c l = elim (le-or-lt (ceiling t q) (ceiling t p)) [
+    | inr g ↦ g
+    | inl g ↦
+        let m = ceiling-some t p s h in
+        let z = ceiling-le t (ceiling t p) q m (le_trans (le-ceiling t q c) (omega (arith, mul-le-mul_left q g))) in
+        omega arith
+  ]
 
 -- as the code computes it
 rounded-up : (a p : ℕ) → 1 ≤ p → div_ceil a p ≡ ceiling a p
@@ -57,10 +67,33 @@ response-early limit ts xs i w = elim (le-or-lt 1 (response_up_to limit ts xs i)
   | inr h ↦ omega arith
 ]
 
+-- a task's demand by its response time is no less
+response-tight : (limit : ℕ) (ts : List Task) (xs : List ℕ) (i : ℕ) → 1 ≤ own_demand (task_at ts i)
+    → 1 ≤ response_up_to limit ts xs i → response_up_to limit ts xs i ≤ demand ts xs i (response_up_to limit ts xs i)
+response-tight limit ts xs i w s =
+    let r = response_up_to limit ts xs i in
+    let m = demand ts xs i r in
+    let x = response-exact limit ts xs i w in
+    let c = x.covers s in
+    elim (le-or-lt r m) [
+      | inl h ↦ h
+      | inr h ↦ let z = x.least m (record {
+        some = omega (arith, demand_own ts xs i r);
+        early = omega (arith, c.early);
+        covers = demand-monotone ts xs i m r (omega arith);
+      }) in omega (arith, z.1)
+    ]
+
 module _ (ts : List Task) (u : List ℕ) (i : ℕ) where
   -- the deadline of another task stays
   pub deadline-other : (k p : ℕ) → (k ≡ i → ⊥) → deadline_at ts (set u i p) k ≡ deadline_at ts u k
   deadline-other k p n = ap (deadline (task_at ts k)) (get_or-set_other u i k p 0 n)
+
+  -- and the response time of a task above
+  pub response-other : (k p : ℕ) → k < i → response_time ts (set u i p) k ≡ response_time ts u k
+  response-other k p l =
+      ap (λ d. response_up_to d ts (set u i p) k) (deadline-other k p (λ e. omega arith))
+      ∙ response-same ts (set u i p) u k (λ j h. get_or-set_other u i j p 0 (λ e. omega arith)) (deadline_at ts u k)
 
   module _ (b : i < length u) where
     -- task i's own period bounds its deadline and has no part in its demand
@@ -89,6 +122,19 @@ module _ (ts : List Task) (u : List ℕ) (i : ℕ) where
               omega (arith, x.least t (own-covers v most t (omega arith) y))))
         ]
 
+    -- at that response time, which it keeps
+    pub own_responds : (most : ℕ) {r : ℕ} → 1 ≤ own_demand (task_at ts i) → r ≡ response_time ts (set u i most) i → 1 ≤ r
+        → (v : ℕ) → v ≤ most → r ≤ v → response_time ts (set u i v) i ≡ r
+    own_responds most {r} w is s v h l =
+        let x = response-exact (deadline_at ts (set u i most) i) ts (set u i most) i w in
+        let y = response-exact (deadline_at ts (set u i v) i) ts (set u i v) i w in
+        let t = response_time ts (set u i v) i in
+        let low = y.least r (own-covers most v r l (rw (← is) at (x.covers (omega arith)))) in
+        let c = y.covers low.0 in
+        let early : t ≤ v = omega (arith, get_or-set_same u i v 0 b, c.early) in
+        let high = x.least t (own-covers v most t (omega arith) c) in
+        omega (arith, low.1, high.1, is)
+
     -- task k below is done by its response time wherever task i is released no more often within it
     module _ (k : ℕ) (below : i < k) (w : 1 ≤ own_demand (task_at ts k)) where
       pub released-covers : (p : ℕ) {r : ℕ} → r ≡ response_time ts (set u i p) k → 1 ≤ r
@@ -107,6 +153,21 @@ module _ (ts : List Task) (u : List ℕ) (i : ℕ) where
               ]),
             );
           }
+
+      -- and wherever it is released more often, no earlier than one more run of it after that
+      pub released-begins : (p : ℕ) {r : ℕ} → r ≡ response_time ts (set u i p) k → 1 ≤ r
+          → (q : ℕ) → BeginsAt ts u i q k r → ceiling r p < ceiling r q → BeginsAt ts u i q k (r + (task_at ts i).wcet)
+      released-begins p {r} is s q n h = record {
+        some = omega arith;
+        below = λ t c.
+            let more = rw (← get_or-set_same u i p 0 b, ← get_or-set_same u i q 0 b) at h in
+            let m = demand-more ts (set u i q) (set u i p) i r more k below (λ j l. elim (eq-or-ne j i) [
+              | inl e ↦ rw (e, get_or-set_same u i p 0 b, get_or-set_same u i q 0 b) (omega arith)
+              | inr n ↦ rw (get_or-set_other u i j p 0 n, get_or-set_other u i j q 0 n) (omega arith)
+            ]) in
+            let tight = rw (← is) at (response-tight (deadline_at ts (set u i p) k) ts (set u i p) k w (rw (← is) s)) in
+            omega (arith, c.covers, m, tight, demand-monotone ts (set u i q) k r t (n.below t c));
+      }
 
   -- and its climbs at a shorter period of task i begin no earlier
   pub shorter-begins : (k : ℕ) {y p t : ℕ} → ((j : ℕ) → j < k → 1 ≤ get_or (set u i y) j 0) → y ≤ p

@@ -1,16 +1,13 @@
--- What the functions that lower a node ask and promise.
+-- What the functions that lower a node ask and promise; and where a climb may begin, in raising a node, too.
 use Rattle.std.specs.Prelude.{◌≡◌, true, cond, List, ℕ, ◌+◌, ◌-◌, ◌≤◌, ◌<◌, eqb, leb, length, get_or}
 use Rattle.plan.specs.declared.tasks.Task.{Task}
-use Rattle.plan.specs.Tasks.{max_tasks, task_at, AllValid, period_maxs}
+use Rattle.plan.specs.Tasks.{task_at, period_maxs}
 use Rattle.response.specs.Analysis.{own_demand, schedulable}
 use Rattle.response.specs.Assignments.{cost, within_bounds}
 use Rattle.response.specs.Inner.{max_time}
 
 -- a node whose lowering is looked for, among tasks that are schedulable at their longest periods
 pub record LowersNode (ts : List Task) (node : List ℕ) : Type 0 where
-  pub valid : AllValid ts
-  pub some : 1 ≤ length ts
-  pub few : length ts ≤ max_tasks
   pub bounded : within_bounds ts node ≡ true
   pub top : schedulable ts (period_maxs ts) ≡ true
 
@@ -27,13 +24,15 @@ pub record Lowers (ts : List Task) (node x : List ℕ) : Type 0 where
   pub above : (k : ℕ) → get_or node k 0 ≤ get_or x k 0
   pub met : schedulable ts x ≡ true
 
--- where a climb of task i may begin, the task right above it having responded at a time
+-- where a climb of a task may begin, a task above it having responded at a time
+abbrev pub begin_below : Task → Task → ℕ → ℕ
+begin_below task above response =
+    let own = own_demand task in cond (leb above.blocking own) (response + (own - above.blocking)) own
+
+-- of task i, by the task right above it
 abbrev pub begin_at : List Task → ℕ → ℕ → ℕ
-begin_at ts i above =
-    let own = own_demand (task_at ts i) in let blocking = (task_at ts (i - 1)).blocking in
-    cond (eqb i 0) own (cond (leb blocking own) (above + (own - blocking)) own)
+begin_at ts i above = cond (eqb i 0) (own_demand (task_at ts i)) (begin_below (task_at ts i) (task_at ts (i - 1)) above)
 
 pub record BeginsBelow (ts : List Task) (i above : ℕ) : Type 0 where
-  pub valid : AllValid ts
   pub inside : i < length ts
   pub early : above ≤ max_time

@@ -58,10 +58,12 @@ pub record SeeksBetween (ts : List Task) (u : List ℕ) (i k most last response 
 -- that of all tasks below task i; the climbs of the lowest may begin at start
 pub record SeeksBelow (ts : List Task) (u : List ℕ) (i low most start : ℕ) : Type 0 where
   pub range : Range ts u i low most
+  pub below : i < length u - 1
   pub begins : BeginsAt ts u i most (length u - 1) start
 
--- that of task i, too: own is its response time at the period most
+-- that of task i, too, which may be the lowest: own is its response time at the period most
 pub record SeeksFrom (ts : List Task) (u : List ℕ) (i own low most start : ℕ) : Type 0 where
-  pub below : SeeksBelow ts u i low most start
+  pub range : Range ts u i low most
+  pub begins : BeginsAt ts u i most (length u - 1) start
   pub works : 1 ≤ own
   pub is : own ≡ response_time ts (set u i most) i

@@ -4,29 +4,13 @@ ghost use Rattle.plan.specs.Promises.{plan_tasks};
 ghost use Rattle.response.specs.Analysis.{schedulable};
 ghost use Rattle.response.specs.Assignments.{cost};
 ghost use Rattle.boundary.specs.Lowering.{lowering, lowering_from};
-ghost use Rattle.boundary.specs.Inner.{begin_at, BeginsBelow, Lowers, LowersNode, LowersUpTo};
+ghost use Rattle.boundary.specs.Inner.{Lowers, LowersNode, LowersUpTo};
 
+use super::begins::begin_at;
 use super::misses::{last_miss_from, lowest_start};
 use super::node::Node;
 use plan::Plan;
-use response::{Assignment, own_demand};
-
-// Where the climb of task i may begin, the response time of the task right above it being known: it responds no earlier
-// than that, less that task's blocking, which it does not see, and its own demand later. Where the blocking exceeds its
-// own demand only the latter is known.
-fn begin_at(plan: &Plan, i: usize, above: u32) -> u32
-    requires { BeginsBelow (plan_tasks plan.now) i above }
-    ensures { result ≡ begin_at (plan_tasks plan.now) i above }
-{
-    let own = own_demand(&plan.tasks[i]);
-    if i == 0 {
-        return own;
-    }
-    match own.checked_sub(plan.tasks[i - 1].blocking) {
-        Some(later) => above + later,
-        None => own,
-    }
-}
+use response::Assignment;
 
 // Each task in turn. A task responds no earlier than `begin_at` says, and the lowest no earlier than before a period
 // was lowered: their climbs begin there. The periods that are lowered and the node's below them are a lower bound of
@@ -39,6 +23,7 @@ fn lower_all(plan: &Plan, x: &mut [u32], node: &Node, limit: u64) -> u64
         x.new result }
 {
     let mut cost = node.cost;
+    // the first task has none above: `begin_at` leaves this unread, and an Option would be taken apart for one turn
     let mut own: u32 = 0;
     let mut start = lowest_start(plan);
     for (i, &least) in node.periods.iter().enumerate() {

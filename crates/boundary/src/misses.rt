@@ -5,10 +5,12 @@ ghost use Rattle.response.specs.Analysis.{own_demand};
 ghost use Rattle.boundary.specs.Misses.{Moved, LastMiss, BeginsAt, Responds, settles};
 ghost use Rattle.boundary.specs.Misses.{Seeks, SeeksBetween, SeeksBelow, SeeksFrom};
 
+use super::begins::begin_below;
 use plan::{Plan, Task};
 use response::{Assignment, deadline, own_demand};
 
-// The last period at which a deadline is missed, and a response time right past it.
+// The last period at which a deadline is missed, and a time at which the climbs right past it may begin: a response time
+// there, or the one at which they began before.
 #[derive(Clone, Copy, Debug, PartialEq, Eq)]
 pub struct Miss {
     pub last: u32,
@@ -32,8 +34,9 @@ fn probe(low: u32, high: u32, turn: u32) -> u32
 
 // The last period of task i, from low to most, at which task k misses its deadline; low where there is none above.
 // Where task k meets its deadline, it meets it down to the least period at which task i runs as often within its
-// response time, and at every shorter period it responds no earlier: its next climb begins there.
-// Plan, task and greatest period stay parameters: as a struct's fields every clause would name them by `self.now`.
+// response time. At every shorter period task i runs once more by then: the next climb begins so much later.
+// Plan, task and greatest period stay parameters: as a struct's fields every clause would name them by `self.now`; and
+// the periods are lent mutably, which an `Assignment`'s are not.
 fn last_miss(
     plan: &Plan,
     u: &mut [u32],
@@ -53,16 +56,18 @@ fn last_miss(
     let mut last = low;
     let mut high = most + 1;
     let mut response = start;
+    let mut begin = start;
     let mut turn: u32 = 0;
     // No `for`: what is left shrinks by jumps; a turn chooses the next value only.
     while last + 1 < high {
         let period = probe(last, high, turn);
         u[i] = period;
         let assignment = Assignment { plan, periods: u };
-        match assignment.response_from(k, deadline, response) {
+        match assignment.response_from(k, deadline, begin) {
             None => last = period,
             Some(found) => {
                 response = found;
+                begin = found + plan.tasks[i].wcet;
                 high = found.div_ceil(found.div_ceil(period));
             }
         }
@@ -78,8 +83,8 @@ fn settles(task: &Task, period: u32, own: u32, response: u32) -> bool
     response <= deadline(task, period) && task.blocking <= own
 }
 
-// The same of the tasks between task i and task k, whose last miss and response time are known: these settle every task
-// whose deadline is not before that time and whose blocking is not above task k's own demand.
+// As `last_miss`, of the tasks between task i and task k, whose last miss and response time are known: these settle
+// every task whose deadline is not before that time and whose blocking is not above task k's own demand.
 fn last_miss_between(plan: &Plan, u: &mut [u32], i: usize, k: usize, most: u32, known: Miss) -> u32
     requires { SeeksBetween (plan_tasks plan.now) u.old i k most known.last known.response }
     ensures is { let ts = plan_tasks plan.now in
@@ -98,8 +103,8 @@ fn last_miss_between(plan: &Plan, u: &mut [u32], i: usize, k: usize, most: u32, 
     miss.last
 }
 
-// The same of all tasks below task i, the lowest first: it is mostly the one that misses longest. The response time is
-// the lowest one's.
+// As `last_miss`, of all tasks below task i, the lowest first: it is mostly the one that misses longest. The time is the
+// lowest one's.
 fn last_miss_below(plan: &Plan, u: &mut [u32], i: usize, low: u32, most: u32, start: u32) -> Miss
     requires { SeeksBelow (plan_tasks plan.now) u.old i low most start }
     ensures is { let n = length u.old in
@@ -109,12 +114,6 @@ fn last_miss_below(plan: &Plan, u: &mut [u32], i: usize, low: u32, most: u32, st
     ensures moved { Moved (plan_tasks plan.now) i u.old u.new }
 {
     let k = u.len() - 1;
-    if k <= i {
-        return Miss {
-            last: low,
-            response: start,
-        };
-    }
     let lowest = last_miss(plan, u, i, k, low, most, start);
     let last = last_miss_between(plan, u, i, k, most, lowest);
     let response = if lowest.last < last {
@@ -125,8 +124,9 @@ fn last_miss_below(plan: &Plan, u: &mut [u32], i: usize, low: u32, most: u32, st
     Miss { last, response }
 }
 
-// The same of task i and all tasks below it; own is its response time, in which its own period has no part: it meets
-// its deadline from there on.
+// As `last_miss`, of task i and all tasks below it; own is its response time, in which its own period has no part: it
+// meets its deadline from there on. The lowest one's climbs begin at start, or where `begin_below` says by own, if that
+// is later.
 pub fn last_miss_from(
     plan: &Plan,
     u: &mut [u32],
@@ -143,7 +143,16 @@ pub fn last_miss_from(
         → BeginsAt (plan_tasks plan.now) p i (suc result.last) (length p - 1) result.response) }
     ensures moved { Moved (plan_tasks plan.now) i u.old u.new }
 {
-    last_miss_below(plan, u, i, low.max(own - 1), most, start)
+    let from = low.max(own - 1);
+    let lowest = u.len() - 1;
+    if lowest <= i {
+        return Miss {
+            last: from,
+            response: start,
+        };
+    }
+    let begin = begin_below(&plan.tasks[lowest], &plan.tasks[i], own);
+    last_miss_below(plan, u, i, from, most, start.max(begin))
 }
 
 // Where the climbs of the lowest task may begin before any of its response times is known.

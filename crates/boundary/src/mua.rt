@@ -1,43 +1,45 @@
 ghost use Rattle.std.specs.Prelude.{◌≡◌};
 ghost use Rattle.plan.specs.Tasks.{period_maxs};
 ghost use Rattle.plan.specs.Promises.{plan_tasks};
-ghost use Rattle.response.specs.Analysis.{meets, schedulable};
+ghost use Rattle.response.specs.Analysis.{response_time, schedulable};
+ghost use Rattle.response.specs.Inner.{some_time};
 ghost use Rattle.boundary.specs.Mua.{mua};
 ghost use Rattle.boundary.specs.Raising.{Unschedulable, Raises, Raised};
 
+use super::begins::begin_at;
 use super::misses::{last_miss_from, lowest_start};
-use super::node::copied;
 use plan::{PerTask, Plan};
 use response::Assignment;
 
-// Raises the period of task i as far as the assignment stays unschedulable; tells whether task i then meets its
-// deadline.
-fn raise(plan: &Plan, u: &mut [u32], i: usize, most: u32) -> bool
-    requires { Raises (plan_tasks plan.now) u.old i most }
+// Raises the period of task i as far as the assignment stays unschedulable; the climb of the task may begin at a time
+// that is known. Its response time then, none where it misses its deadline. Parameters as in `misses`.
+fn raise(plan: &Plan, u: &mut [u32], i: usize, most: u32, begin: u32) -> Option<u32>
+    requires { Raises (plan_tasks plan.now) u.old i most begin }
     ensures is { Raised (plan_tasks plan.now) u.old i most u.new }
-    ensures met { result ≡ meets (plan_tasks plan.now) u.new i }
+    ensures responds { result ≡ some_time (response_time (plan_tasks plan.now) u.new i) }
 {
     let least = u[i];
     u[i] = most;
-    let Some(own) = (Assignment { plan, periods: u }).response_time(i) else {
-        return false;
-    };
+    let assignment = Assignment { plan, periods: u };
+    let own = assignment.response_from(i, assignment.deadline(i), begin)?;
     let miss = last_miss_from(plan, u, i, own, least, most, lowest_start(plan));
     u[i] = miss.last;
-    own <= miss.last
+    (own <= miss.last).then_some(own)
 }
 
-// Each task in turn. Below a task that misses its deadline at periods that are final every period goes to its maximum.
+// Each task in turn, its climb from the response time of the task above. Below a task that misses its deadline at
+// periods that are final every period goes to its maximum.
 fn raise_all(plan: &Plan, u: &mut [u32])
     requires { Unschedulable (plan_tasks plan.now) u.old }
     ensures { let ts = plan_tasks plan.now in u.new ≡ mua (schedulable ts) (period_maxs ts) u.old }
 {
-    let mut met = true;
+    // none misses yet; the first task has none above: `begin_at` leaves the time unread
+    let mut above = Some(0);
     for (i, task) in plan.tasks.iter().enumerate() {
-        if met {
-            met = raise(plan, u, i, task.period_max);
-        } else {
-            u[i] = task.period_max;
+        let most = task.period_max;
+        match above {
+            Some(response) => above = raise(plan, u, i, most, begin_at(plan, i, response)),
+            None => u[i] = most,
         }
     }
 }
@@ -48,7 +50,7 @@ pub fn mua_of(node: &Assignment) -> PerTask
     ensures { let ts = plan_tasks node.now.plan.now in
         result.items ≡ mua (schedulable ts) (period_maxs ts) node.now.periods.now }
 {
-    let mut u = copied(node.periods);
+    let mut u = PerTask::try_from(node.periods).unwrap();
     raise_all(node.plan, &mut u);
     u
 }

@@ -6,7 +6,9 @@ use Rattle.boundary.proofs.Lowered.{step_small, total-small, lowering-on, lowers
 use Rattle.boundary.proofs.lowering.lower_all.Goals as goal
 
 pub loop-i-init : goal.loop-i-init
-loop-i-init c = lowering-start c.requires.0 c.lowest_start-start.ensures c.requires.1
+loop-i-init c =
+    let p = c.args.plan.now in
+    lowering-start p.some p.few p.valid c.requires.0 c.lowest_start-start.ensures c.requires.1
 
 pub invariant_of-assignment : goal.invariant_of-assignment
 invariant_of-assignment c = record { limits = lowering-limits c.loop-i.invariant }

@@ -11,7 +11,7 @@ pub lower_all-cost-requires : goal.lower_all-cost-requires
 lower_all-cost-requires c =
     let longest : c.column-periods.result.items ≡ period_maxs (plan_tasks c.args.plan.now) =
     column-is (λ t. t.period_max) (λ t x h. search rules) _ _ c.column-periods.ensures in
-    (rw (c.deref_mut.ensures.value, longest) (lowers-node c.requires.0), c.requires.1)
+    (rw (c.deref_mut.ensures.value, longest) (lowers-node c.args.plan.now.valid c.requires.0), c.requires.1)
 
 pub returns : goal.returns
 returns c =

@@ -1,17 +1,27 @@
-use Rattle.boundary.proofs.Raising.{raising-start, raising-met, raising-missed}
+use Rattle.boundary.proofs.Raising.{raising-start, raising-early, raising-raises, raising-met, raising-missed}
 use Rattle.boundary.proofs.mua.raise_all.Goals as goal
-use Rattle.boundary.proofs.mua.raise_all.Goals.{then-met, else-met}
+use Rattle.boundary.proofs.mua.raise_all.Goals.{in-Some, in-None}
 
 pub loop-i-init : goal.loop-i-init
 loop-i-init c = raising-start c.requires
+
+pub begin_at-requires : goal.begin_at-requires
+begin_at-requires c =
+    raising-early c.loop-i.invariant c.in-Some.is (rw c.deref-task-items.ensures.0 at c.loop-i-test.true)
+
+pub raise-above-requires : goal.raise-above-requires
+raise-above-requires c =
+    let tasks = c.deref-task-items.ensures.0 in
+    rw (tasks, c.begin_at.ensures) (raising-raises c.loop-i.invariant (rw tasks at c.loop-i-test.true) c.in-Some.is)
 
 pub loop-i-preserved : goal.loop-i-preserved
 loop-i-preserved c =
     let g = c.loop-i.invariant in
     let tasks = c.deref-task-items.ensures.0 in
     let inside = rw tasks at c.loop-i-test.true in
-    elim c.if-met.branch [
-      | then-met w ↦ rw (w.u-is, w.met-is)
-          (raising-met g inside w.if-met.true (rw tasks at w.raise-met.ensures.is) w.raise-met.ensures.met)
-      | else-met w ↦ rw (w.u-is, w.met-is, tasks) (raising-missed g inside w.if-met.false)
+    elim c.match-above.branch [
+      | in-Some w ↦
+          let e = w.raise-above.ensures in
+          rw (w.u-is, w.above-is) (raising-met g inside w.in-Some.is (rw tasks at e.is) e.responds)
+      | in-None w ↦ rw (w.u-is, w.above-is, tasks) (raising-missed g inside w.in-None.is)
     ]

@@ -1,0 +1,35 @@
+ghost use Rattle.std.specs.Prelude.{◌≡◌, ◌≤◌};
+ghost use Rattle.plan.specs.Tasks.{Valid};
+ghost use Rattle.plan.specs.Promises.{plan_tasks};
+ghost use Rattle.response.specs.Inner.{max_time};
+ghost use Rattle.boundary.specs.Inner.{begin_at, begin_below, BeginsBelow};
+
+use plan::{Plan, Task};
+use response::own_demand;
+
+// Where the climbs of a task may begin, the response time of a task above it being known: it responds no earlier than
+// that, less that task's blocking, which it does not see, and its own demand later. Where the blocking exceeds its own
+// demand only the latter is known.
+pub fn begin_below(task: &Task, above: &Task, response: u32) -> u32
+    requires { Valid task.now × (response ≤ max_time) }
+    ensures { result ≡ begin_below task.now above.now response }
+{
+    let own = own_demand(task);
+    match own.checked_sub(above.blocking) {
+        Some(later) => response + later,
+        None => own,
+    }
+}
+
+// The same of task i and the task right above it; of the first task, which has none above, its own demand: the time is
+// left unread. No Option of a time: where periods are raised, none says that a task above misses.
+pub fn begin_at(plan: &Plan, i: usize, above: u32) -> u32
+    requires { BeginsBelow (plan_tasks plan.now) i above }
+    ensures { result ≡ begin_at (plan_tasks plan.now) i above }
+{
+    let task = &plan.tasks[i];
+    if i == 0 {
+        return own_demand(task);
+    }
+    begin_below(task, &plan.tasks[i - 1], above)
+}
