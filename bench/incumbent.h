@@ -2,16 +2,6 @@
  * crates/optimizer/src/incumbent.rt keep it. It lies in the outcome, whose cost and
  * periods an answer overwrites. Part of planner.c. */
 
-/* No response time of task i is below this, where the task above it responds at
- * `above`: with its own demand in the place of that one's blocking it responds no
- * earlier, if its demand covers that one's. */
-static uint32_t start_below(const struct plan *plan, uint32_t i, uint32_t above)
-{
-    if (i == 0 || !is_covered(plan, i - 1, i))
-        return plan->own_demand[i];
-    return above - plan->blocking[i - 1] + plan->own_demand[i];
-}
-
 /* Lowers the greatest periods in turn, each to the least value from the node's on
  * that leaves all schedulable; returns their cost, or where that is above `limit`
  * something above it. The lowest task responds no earlier than before: its climbs
@@ -24,7 +14,7 @@ static uint64_t lower_to(const struct plan *plan, const uint32_t *node, uint64_t
 
     memcpy(periods, plan->period_max, plan->n * sizeof *periods);
     for (uint32_t i = 0; i < plan->n && cost <= limit; i++) {
-        own = response_from(plan, periods, i, deadline_at(plan, i, periods[i]), start_below(plan, i, own));
+        own = response_from(plan, periods, i, deadline_at(plan, i, periods[i]), start_at(plan, i, own));
         struct miss miss = last_miss_from(plan, periods, i, own, node[i] - 1, start);
         periods[i] = miss.last + 1;
         cost += (uint64_t)plan->weight[i] * (periods[i] - node[i]);

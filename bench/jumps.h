@@ -1,5 +1,6 @@
-/* The way to the mua as crates/boundary/src/misses.rt and mua.rt go it: jumps from
- * response times, and climbs that begin at the last one. Part of planner.c. */
+/* The way to the mua as crates/boundary/src/begins.rt, misses.rt and mua.rt go it:
+ * jumps from response times, and climbs that begin by those that are known. Part of
+ * planner.c. */
 
 static uint32_t greater(uint32_t a, uint32_t b) { return a < b ? b : a; }
 
@@ -17,34 +18,52 @@ struct miss {
     uint32_t last, response;
 };
 
-/* The last period of task i, from `low` up to its greatest, at which task k, below
- * it, misses its deadline; `low` where there is none above. No response time there
- * may be below `start`. Leaves periods[i] at some value. */
-static struct miss last_miss(const struct plan *plan, uint32_t *periods, uint32_t i, uint32_t k, uint32_t low,
-                             uint32_t start)
-{
-    uint32_t deadline = deadline_at(plan, k, periods[k]);
-    uint32_t high = plan->period_max[i] + 1;
-
-    for (uint32_t turn = 0; low + 1 < high; turn++) {
-        uint32_t period = probe(low, high, turn);
-        periods[i] = period;
-        uint32_t response = response_from(plan, periods, k, deadline, start);
-        if (response == 0) {
-            low = period;
-        } else {
-            start = response;
-            high = rounded_up(response, rounded_up(response, period));
-        }
-    }
-    return (struct miss){low, start};
-}
-
 /* Whether task k's demand is at least that of task j, above it, by every time: all but
  * j's blocking is part of it, and k's own demand has to make up for that. */
 static int is_covered(const struct plan *plan, uint32_t j, uint32_t k)
 {
     return plan->blocking[j] <= plan->own_demand[k];
+}
+
+/* No response time of task k is below this, where task j above it responds at `above`:
+ * with its own demand in the place of that one's blocking it responds no earlier, if
+ * its demand covers that one's. */
+static uint32_t start_below(const struct plan *plan, uint32_t j, uint32_t k, uint32_t above)
+{
+    if (!is_covered(plan, j, k))
+        return plan->own_demand[k];
+    return above - plan->blocking[j] + plan->own_demand[k];
+}
+
+/* The same of task k by the task right above it; the first has none. */
+static uint32_t start_at(const struct plan *plan, uint32_t k, uint32_t above)
+{
+    return k == 0 ? plan->own_demand[k] : start_below(plan, k - 1, k, above);
+}
+
+/* The last period of task i, from `low` up to its greatest, at which task k, below
+ * it, misses its deadline; `low` where there is none above. No response time there
+ * may be below `start`. Where task i runs more often, task k responds one run of it
+ * later at least. Leaves periods[i] at some value. */
+static struct miss last_miss(const struct plan *plan, uint32_t *periods, uint32_t i, uint32_t k, uint32_t low,
+                             uint32_t start)
+{
+    uint32_t deadline = deadline_at(plan, k, periods[k]);
+    uint32_t high = plan->period_max[i] + 1, response = start;
+
+    for (uint32_t turn = 0; low + 1 < high; turn++) {
+        uint32_t period = probe(low, high, turn);
+        periods[i] = period;
+        uint32_t found = response_from(plan, periods, k, deadline, start);
+        if (found == 0) {
+            low = period;
+        } else {
+            response = found;
+            start = found + plan->wcet[i];
+            high = rounded_up(found, rounded_up(found, period));
+        }
+    }
+    return (struct miss){low, response};
 }
 
 /* The same of the tasks between task i and task k, whose own is `known`: it settles
@@ -67,11 +86,9 @@ static struct miss last_miss_below(const struct plan *plan, uint32_t *periods, u
                                    uint32_t start)
 {
     uint32_t k = plan->n - 1;
-
-    if (k <= i)
-        return (struct miss){low, start};
     struct miss lowest = last_miss(plan, periods, i, k, low, start);
     uint32_t last = last_miss_between(plan, periods, i, k, lowest);
+
     return lowest.last < last ? (struct miss){last, start} : lowest;
 }
 
@@ -79,31 +96,35 @@ static struct miss last_miss_below(const struct plan *plan, uint32_t *periods, u
 static struct miss last_miss_from(const struct plan *plan, uint32_t *periods, uint32_t i, uint32_t own, uint32_t low,
                                   uint32_t start)
 {
-    return last_miss_below(plan, periods, i, greater(low, own - 1), start);
+    uint32_t from = greater(low, own - 1), lowest = plan->n - 1;
+
+    if (lowest <= i)
+        return (struct miss){from, start};
+    return last_miss_below(plan, periods, i, from, greater(start, start_below(plan, i, lowest, own)));
 }
 
-/* The greatest period of task i that leaves the assignment unschedulable; 1 if
- * task i then meets its deadline. */
-static int raise_one(const struct plan *plan, uint32_t *periods, uint32_t i)
+/* The greatest period of task i that leaves the assignment unschedulable; its response
+ * time then, which is none below `start`, 0 if it misses its deadline. */
+static uint32_t raise_one(const struct plan *plan, uint32_t *periods, uint32_t i, uint32_t start)
 {
     uint32_t least = periods[i];
 
     periods[i] = plan->period_max[i];
-    uint32_t own = response_time(plan, periods, i);
+    uint32_t own = response_from(plan, periods, i, deadline_at(plan, i, periods[i]), start);
     if (own == 0)
         return 0;
     periods[i] = last_miss_from(plan, periods, i, own, least, plan->own_demand[plan->n - 1]).last;
-    return own <= periods[i];
+    return own <= periods[i] ? own : 0;
 }
 
 /* Below a task that is late at periods that are final every value will do. */
 static void raise_to_mua(const struct plan *plan, uint32_t *periods)
 {
-    int met = 1;
+    uint32_t above = 1;
 
     for (uint32_t i = 0; i < plan->n; i++)
-        if (met)
-            met = raise_one(plan, periods, i);
+        if (above != 0)
+            above = raise_one(plan, periods, i, start_at(plan, i, above));
         else
             periods[i] = plan->period_max[i];
 }
