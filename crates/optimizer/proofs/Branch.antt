@@ -1,5 +1,5 @@
 -- The children of a node listed after the open nodes, one task at a time.
-use mathlib.Core.Path.{◌≡◌, refl, sym, ◌∙◌}
+use mathlib.Core.Path.{◌≡◌, sym, ◌∙◌}
 use mathlib.Core.Bool.{Bool, true, false, false≢true}
 use mathlib.Core.List.{List, [], ◌∷◌, ◌++◌, append_assoc, append-nil}
 use Prim.Native.Nat.{ℕ, suc, ◌+◌, ◌-◌, ◌≤◌, ◌<◌}
@@ -38,11 +38,6 @@ module _ (ts : List Task) (old : OpenNodes) (node u : List ℕ) where
     pub is : open_nodes new ++ to_come i ≡ expanded (period_maxs ts) node u (open_nodes old)
 
 module _ {ts : List Task} {old : OpenNodes} {node u : List ℕ} where
-  pub grown-none : Grown ts old node u old 0
-  grown-none =
-      let e : length node - 0 ≡ length node = omega arith in
-      record { same = record { same_reference = refl; weights = refl; room = refl }; upto = omega arith; is = rw e }
-
   module _ {new : OpenNodes} {i : ℕ} (g : Grown ts old node u new i) where
     total : length (expanded (period_maxs ts) node u (open_nodes old)) ≡ new.count + length (to_come ts old node u i)
     total = rw (← g.is, length-append, listed-long new)

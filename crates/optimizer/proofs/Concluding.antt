@@ -22,27 +22,18 @@ use Rattle.response.proofs.Ranges.{ranged, limits-within}
 use Rattle.response.proofs.Missed.{schedulable-first, first-schedulable}
 use Rattle.optimizer.specs.declared.conclusion.Answer.{Answer}
 use Rattle.optimizer.specs.declared.errors.CallError.{CallError}
-use Rattle.optimizer.specs.declared.errors.CallError.TheVariants.{Read, PeriodsLength, WorkLength, InfeasibleAlone, Infeasible}
 use Rattle.optimizer.specs.Answers.{call_error_fault, refused_answer}
 use Rattle.optimizer.specs.Rule.{End}
 use Rattle.optimizer.specs.Search.{incumbent_search}
 use Rattle.optimizer.specs.Inner.{Concludes, Searchable, ended_by, Ends, Leaves}
 use Rattle.optimizer.specs.Promises.{call_fault, infeasible_alone, alone_fault, infeasible_fault, Outcome, refused, concluded, called}
 use Rattle.optimizer.specs.Promises.{is_searched}
-use Rattle.plan.proofs.Numbers.{read-error-numbers}
+use Rattle.optimizer.proofs.Numbers.{call-error-numbers}
 use Rattle.optimizer.proofs.Guarantees.{search-optimal}
 use Rattle.optimizer.proofs.Settled.{sound, alone, tasks-pass}
 use Rattle.optimizer.proofs.Improving.{incumbent-first, lawful-incumbent}
 
--- a refusal has a number, below those of a stop
-pub call-error-numbers : (e : CallError) → (1 ≤ (call_error_fault e).number) × ((call_error_fault e).number ≤ 32)
-call-error-numbers (Read e) = (omega (arith, read-error-numbers e), omega (arith, read-error-numbers e))
-call-error-numbers PeriodsLength = (omega arith, omega arith)
-call-error-numbers WorkLength = (omega arith, omega arith)
-call-error-numbers (InfeasibleAlone task) = (omega arith, omega arith)
-call-error-numbers (Infeasible task) = (omega arith, omega arith)
-
--- and leaves both spaces as they were
+-- a refusal leaves both spaces as they were
 module _ (e : CallError) where
   abbrev f : Fault
   f = call_error_fault e

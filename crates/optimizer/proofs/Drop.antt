@@ -1,7 +1,7 @@
 -- Which children of a node an open node q drops: a child is the node with one period raised, so it dominates q where q exceeds the
 -- node nowhere else.
 use mathlib.Core.Logic.{inl, inr, ◌≢◌}
-use mathlib.Core.Path.{◌≡◌, refl, sym, ◌∙◌, subst}
+use mathlib.Core.Path.{◌≡◌, sym, ◌∙◌, subst}
 use mathlib.Core.Bool.{Bool, true, false, ◌||◌, or-true, or-false, or_assoc}
 use mathlib.Core.List.{List, []}
 use Prim.Native.Nat.{ℕ, suc, ◌+◌, ◌-◌, ◌≤◌, ◌<◌}
@@ -24,49 +24,55 @@ use Rattle.optimizer.specs.declared.nodes.OpenNodes.{OpenNodes}
 use Rattle.optimizer.proofs.Space.{nodes-at}
 use Rattle.optimizer.proofs.Scans.{weights_of, node_of, listed-long}
 
--- one place of the first i where q exceeds the node, and nowhere else
+-- q exceeds the node at a place of the first i, and nowhere else
 pub record Once (q node : List ℕ) (at i : ℕ) : Type 0 where
   pub inside : at < i
   pub more : get_or node at 0 < get_or q at 0
   pub only : (j : ℕ) → j < i → j ≢ at → get_or q j 0 ≤ get_or node j 0
 
--- how often q exceeds the node among the first i places, and where last
-pub data Over (q node : List ℕ) (times at i : ℕ) : Type 0 where
-  nowhere : times ≡ 0 → ((j : ℕ) → j < i → get_or q j 0 ≤ get_or node j 0) → Over q node times at i
-  once : times ≡ 1 → Once q node at i → Over q node times at i
-  twice : {k : ℕ} → 1 < times → k < at → at < i → get_or node k 0 < get_or q k 0 → get_or node at 0 < get_or q at 0 → Over q node times at i
+-- how often q exceeds the node among the first i places
+pub data Over (q node : List ℕ) (times i : ℕ) : Type 0 where
+  nowhere : times ≡ 0 → ((j : ℕ) → j < i → get_or q j 0 ≤ get_or node j 0) → Over q node times i
+  once : {at : ℕ} → times ≡ 1 → Once q node at i → Over q node times i
+  twice : {k l : ℕ} → 1 < times → k < l → l < i → get_or node k 0 < get_or q k 0 → get_or node l 0 < get_or q l 0 → Over q node times i
 
-pub record Counted (q node : List ℕ) (times at i : ℕ) : Type 0 where
+pub record Counted (q node : List ℕ) (times i : ℕ) : Type 0 where
   pub few : times ≤ i
   pub upto : i ≤ length node
-  pub is : Over q node times at i
+  pub is : Over q node times i
 
 module _ {q node : List ℕ} where
-  pub counted_none : (at : ℕ) → Counted q node 0 at 0
-  counted_none at = record { few = omega arith; upto = omega arith; is = nowhere refl (λ j h. absurd (omega arith)) }
-
-  over-here : {times at i : ℕ} → Over q node times at i → get_or node i 0 < get_or q i 0 → Over q node (times + 1) i (i + 1)
+  over-here : {times i : ℕ} → Over q node times i → get_or node i 0 < get_or q i 0 → Over q node (times + 1) (i + 1)
   over-here (nowhere z f) h = once (omega arith) (record { inside = omega arith; more = h; only = λ j l x. f j (omega arith) })
   over-here (once z o) h = twice (omega arith) o.inside (omega arith) o.more h
-  over-here (twice z k l m o) h = twice (omega arith) l (omega arith) o h
+  over-here (twice z k l m o) h = twice (omega arith) k (omega arith) m o
 
-  over-not : {times at i : ℕ} → Over q node times at i → get_or q i 0 ≤ get_or node i 0 → Over q node times at (i + 1)
+  over-not : {times i : ℕ} → Over q node times i → get_or q i 0 ≤ get_or node i 0 → Over q node times (i + 1)
   over-not (nowhere z f) h = nowhere z (below_more _ _ f h)
   over-not (once z o) h = once z (record { inside = omega (arith, o.inside); more = o.more; only = below_more _ _ o.only (λ x. h) })
   over-not (twice z k l m o) h = twice z k (omega arith) m o
 
-  module _ {times at i : ℕ} (x : Counted q node times at i) (h : i < length node) where
-    pub count-here : get_or node i 0 < get_or q i 0 → Counted q node (times + 1) i (i + 1)
+  module _ {times i : ℕ} (x : Counted q node times i) (h : i < length node) where
+    pub count-here : get_or node i 0 < get_or q i 0 → Counted q node (times + 1) (i + 1)
     count-here m = record { few = omega (arith, x.few); upto = omega arith; is = over-here x.is m }
 
-    pub count-not : get_or q i 0 ≤ get_or node i 0 → Counted q node times at (i + 1)
+    pub count-not : get_or q i 0 ≤ get_or node i 0 → Counted q node times (i + 1)
     count-not m = record { few = omega (arith, x.few); upto = omega arith; is = over-not x.is m }
 
-  pub only-once : {times at i : ℕ} → Counted q node times at i → length node ≤ i → times ≢ 0 → times ≤ 1 → Once q node at (length node)
-  only-once {i = i} x d h l = let e : i ≡ length node = omega (arith, x.upto) in elim x.is [
-    | nowhere z f ↦ absurd (h z)
-    | once z o ↦ rw e at o
-    | twice z k a m o ↦ absurd (omega arith)
+  -- at most one place, which is known
+  pub only-once : {times i at : ℕ} → Counted q node times i → length node ≤ i → times ≤ 1 → at < length node
+      → get_or node at 0 < get_or q at 0 → Once q node at (length node)
+  only-once {i = i} {at} x d l h m = let e : i ≡ length node = omega (arith, x.upto) in elim x.is [
+    | nowhere z f ↦ absurd (omega (arith, f at (omega arith)))
+    | once {at = k} z o ↦ record {
+      inside = h;
+      more = m;
+      only = λ j b n. o.only j (omega arith) (λ y. n (elim (eq-or-ne at k) [
+        | inl w ↦ y ∙ sym w
+        | inr w ↦ absurd (omega (arith, o.only at (omega arith) w))
+      ]));
+    }
+    | twice z k a b o ↦ absurd (omega arith)
   ]
 
 module _ (q : List ℕ) {node u : List ℕ} (e : length q ≡ length node) (a : Above node u) where
@@ -84,29 +90,24 @@ module _ (q : List ℕ) {node u : List ℕ} (e : length q ≡ length node) (a : 
   past : (i : ℕ) → i < length node → suc (get_or u i 0) < get_or q i 0 → dominates (child node u i) q ≡ false
   past i h l = not-dominates q (child node u i) i (simp length-set e) (rw (get_or-set_same node i (suc (get_or u i 0)) 0 h) l)
 
-  module _ {times at i : ℕ} (x : Counted q node times at i) (d : length node ≤ i) where
-    pub drops-all : times ≡ 0 → DroppedBy q node u All
-    drops-all z = elim x.is [
-      | nowhere t f ↦ record {
-        marks = λ j h. under j h (omega (arith, f j (omega arith), a.above j)) (λ k l y. f k (omega arith));
-        is_in_range = tt;
-      }
-      | once t o ↦ absurd (omega arith)
-      | twice t k h m o ↦ absurd (omega arith)
-    ]
+  pub drops-all : ((j : ℕ) → j < length node → get_or q j 0 ≤ get_or node j 0) → DroppedBy q node u All
+  drops-all f = record {
+    marks = λ j h. under j h (omega (arith, f j (omega arith), a.above j)) (λ k l y. f k (omega arith));
+    is_in_range = tt;
+  }
 
-    pub drops-two : 1 < times → DroppedBy q node u Nothing
-    drops-two z = elim x.is [
-      | nowhere t f ↦ absurd (omega arith)
-      | once t o ↦ absurd (omega arith)
-      | twice t l h m o ↦ record {
-        marks = λ j r. elim (bool (eqb at j)) [
-          | inl y ↦ over j _ m (λ w. omega (arith, eqb-true at j y))
-          | inr y ↦ over j at o (eqb-false at j y)
-        ];
-        is_in_range = tt;
-      }
-    ]
+  pub drops-two : {times i : ℕ} → Counted q node times i → 1 < times → DroppedBy q node u Nothing
+  drops-two x z = elim x.is [
+    | nowhere t f ↦ absurd (omega arith)
+    | once t o ↦ absurd (omega arith)
+    | twice {k = k} {l = l} t b h m o ↦ record {
+      marks = λ j r. elim (bool (eqb l j)) [
+        | inl y ↦ over j k m (λ w. omega (arith, eqb-true l j y))
+        | inr y ↦ over j l o (eqb-false l j y)
+      ];
+      is_in_range = tt;
+    }
+  ]
 
   module _ {at : ℕ} (o : Once q node at (length node)) where
     pub drops-one : get_or q at 0 - 1 ≤ get_or u at 0 → DroppedBy q node u (One at)
@@ -140,9 +141,6 @@ pub record Marked (o : OpenNodes) (node u : List ℕ) (marks : List Bool) (k : �
 module _ {o : OpenNodes} {node u : List ℕ} (b : Expands o node u) where
   few : length node ≤ 16
   few = omega (arith, b.sized, o.light.few)
-
-  pub marked-none : Marked o node u (replicate 16 false) 0
-  marked-none = record { size = refl; upto = omega arith; is = λ i h. rw (get_or-replicate 16 i false false (omega (arith, few))) }
 
   module _ {marks : List Bool} {k : ℕ} (m : Marked o node u marks k) where
     pub marked_all : o.count ≤ k → Dropped o node u marks

@@ -1,10 +1,9 @@
--- The incumbent: that it stays schedulable and within the bounds, and that its cost tells whether it is kept.
+-- The incumbent: that it stays schedulable and within the bounds.
 use mathlib.Core.Path.{◌≡◌}
-use mathlib.Core.Bool.{Bool, true, false}
+use mathlib.Core.Bool.{Bool, true}
 use mathlib.Core.Logic.{inl, inr}
 use mathlib.Core.List.{List}
 use Prim.Native.Nat.{ℕ}
-use Rattle.std.specs.Prelude.{Option}
 use Rattle.plan.specs.declared.tasks.Task.{Task}
 use Rattle.plan.specs.Tasks.{period_maxs, weights}
 use Rattle.plan.proofs.Tests.{bool}
@@ -13,8 +12,6 @@ use Rattle.response.proofs.Bounds.{Within, maxs-within}
 use Rattle.boundary.specs.Lowering.{lowering}
 use Rattle.boundary.proofs.Lowered.{lowering-meets}
 use Rattle.optimizer.specs.Search.{improved, incumbent_rule}
-use Rattle.optimizer.specs.Answers.{keeps_of}
-use Rattle.optimizer.specs.Inner.{stop_cost}
 use Rattle.optimizer.proofs.Optimal.{Lawful}
 use Rattle.optimizer.proofs.Branching.{Sound, lawful}
 
@@ -42,8 +39,3 @@ module _ {ts : List Task} {test : List ℕ → Bool} (s : Sound ts test) (top : 
     carried = λ best node c w e. incumbent-next best node c w;
     branches = λ best node c w e. 𝓛.branches tt node tt w e;
   }
-
--- an incumbent is kept exactly where it has a cost
-pub keeps-told : (ts : List Task) (keeps : Bool) (best : List ℕ) {total : Option ℕ} → total ≡ stop_cost ts keeps best → keeps_of total ≡ keeps
-keeps-told ts true best e = rw e
-keeps-told ts false best e = rw e

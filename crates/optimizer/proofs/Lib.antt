@@ -10,6 +10,7 @@ pub mod Improving  -- the incumbent
 pub mod Guarantees  -- what the search by a lawful rule comes to
 pub mod Running  -- the search while it runs
 pub mod Settled  -- demand 3
+pub mod Numbers  -- refusals as numbers
 mod Space  -- nodes in the work space
 mod Ordering  -- assignments of one cost, as the library compares them
 mod Columns  -- the weights of a plan's tasks

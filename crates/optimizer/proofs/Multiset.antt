@@ -30,11 +30,6 @@ pub listed-some : (p : List ℕ) (ps : List (List ℕ)) → Listed p ps → 1 �
 listed-some p [] h = h
 listed-some p (q ∷ ps) h = omega arith
 
-pub listed_at : (ps : List (List ℕ)) (k : ℕ) → k < length ps → Listed (get_or ps k []) ps
-listed_at [] k h = let z : ⊥ = omega arith in absurd z
-listed_at (p ∷ ps) zero h = listed_here p ps
-listed_at (p ∷ ps) (suc k) h = omega (arith, listed_at ps k (omega arith))
-
 pub occurrences-append : (p : List ℕ) (ps qs : List (List ℕ)) → occurrences p (ps ++ qs) ≡ occurrences p ps + occurrences p qs
 occurrences-append p [] qs = omega arith
 occurrences-append p (q ∷ ps) qs = omega (arith, occurrences-append p ps qs)

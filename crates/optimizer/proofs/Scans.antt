@@ -3,7 +3,7 @@ use mathlib.Core.Path.{◌≡◌, refl, sym, ◌∙◌, ap}
 use mathlib.Core.Bool.{Bool, true, false, cond}
 use mathlib.Core.List.{List, [], ◌∷◌}
 use Prim.Native.Nat.{ℕ, ◌+◌, ◌*◌, ◌≤◌, ◌<◌}
-use native.Mathlib.Nat.{mul-le-mul, mul-le-mul_right}
+use native.Mathlib.Nat.{mul-le-mul_right}
 use native.Mathlib.Numerals.{add-one}
 use native.Mathlib.Omega.{arith}
 use lib.ListN.{length, get_or, drop, length-map, drop_of_length-le}
@@ -16,39 +16,13 @@ use Rattle.optimizer.specs.declared.nodes.Least.{Least}
 use Rattle.optimizer.specs.declared.nodes.OpenNodes.{OpenNodes}
 use Rattle.optimizer.specs.Nodes.{least_from, least_of}
 use Rattle.optimizer.specs.Inner.{node_at, open_nodes, least_open, Weighed, IsLeast}
-use Rattle.optimizer.proofs.Space.{in-space, length-node, length-nodes, nodes-at}
-
-cost-none : (ws : List ℕ) → cost ws [] ≡ 0
-cost-none [] = refl
-cost-none (w ∷ ws) = refl
+use Rattle.optimizer.proofs.Space.{in-space, length-nodes, nodes-at}
 
 -- the first i products added up, each at most 1,000 × 2³²
 pub record Summed (ws xs : List ℕ) (sum i : ℕ) : Type 0 where
   pub upto : i ≤ length xs
   pub small : sum ≤ i * 4294967296000
   pub is : sum + cost (drop i ws) (drop i xs) ≡ cost ws xs
-
-pub summed-none : (ws xs : List ℕ) → Summed ws xs 0 0
-summed-none ws xs = record { upto = omega arith; small = omega arith; is = omega arith }
-
-module _ {ws xs : List ℕ} (p : Weighed ws xs) {sum i : ℕ} (s : Summed ws xs sum i) where
-  pub summed-all : length xs ≤ i → sum ≡ cost ws xs
-  summed-all h = omega (arith, rw (drop_of_length-le xs {i = i} h, cost-none (drop i ws)) at s.is)
-
-  module _ {w x : ℕ} (ew : w ≡ get_or ws i 0) (ex : x ≡ get_or xs i 0) (h : i < length xs) (k : get_or xs i 0 < 4294967296) where
-    pub product_small : w * x ≤ 4294967296000
-    product_small =
-        rw (ew, ex)
-        (mul-le-mul {n₁ = get_or ws i 0} {m₁ = get_or xs i 0} {n₂ = 1000} {m₂ = 4294967296} (p.light i) (omega arith))
-
-    pub summed-more : Summed ws xs (sum + w * x) (i + 1)
-    summed-more =
-        let l : i < length ws = omega (arith, p.sized) in
-        record {
-          upto = omega arith;
-          small = omega (arith, s.small, product_small);
-          is = rw (add-one i, ew, ex) (omega (arith, rw (drop-cons ws i 0 l, drop-cons xs i 0 h) at s.is));
-        }
 
 -- as many periods as there are valid tasks
 pub weighed : (ts : List Task) → AllValid ts → length ts ≤ max_tasks → {xs : List ℕ} → length xs ≡ length ts → Weighed (weights ts) xs
@@ -76,16 +50,6 @@ module _ (o : OpenNodes) where
   module _ {k : ℕ} where
     pub stretch_in : k < o.room → k * length (weights_of o) + length (weights_of o) ≤ length o.work.now
     stretch_in h = in-space (length (weights_of o)) h o.fits
-
-    module _ (h : k < o.count) where
-      pub node-sized : length (node_of o k) ≡ length (weights_of o)
-      node-sized = length-node (length (weights_of o)) k o.work.now (stretch_in (omega (arith, o.within)))
-
-      pub node-few : length (node_of o k) ≤ max_tasks
-      node-few = omega (arith, node-sized, o.light.few)
-
-      pub node-weighed : Weighed (weights_of o) (node_of o k)
-      node-weighed = record { few = node-few; sized = node-sized; light = o.light.light }
 
   -- the best of the first k nodes
   pub record Best (best : Least) (k : ℕ) : Type 0 where

@@ -1,5 +1,5 @@
 -- What a call returns, in the requirement's numbers.
-use Rattle.std.specs.Prelude.{◌≡◌, Bool, true, false, ℕ, Option, Some, None, Result, Ok, Err}
+use Rattle.std.specs.Prelude.{◌≡◌, Bool, is_some, Result, Ok, Err}
 use Rattle.plan.specs.declared.faults.Fault.{Fault}
 use Rattle.plan.specs.Faults.{fault, none}
 use Rattle.plan.specs.Errors.{read_error_fault, fault_by}
@@ -43,11 +43,7 @@ answer_of (Err e) = refused_answer (call_error_fault e)
 abbrev pub call_error : {A : Type 0} → Result A CallError → Fault
 call_error r = fault_by call_error_fault r
 
-abbrev pub keeps_of : Option ℕ → Bool
-keeps_of None = false
-keeps_of (Some c) = true
-
 -- a stop has an incumbent exactly where one is kept
 abbrev pub Keeps : Bool → Conclusion → Type 0
 Keeps keeps (Answered cost rounds) = Unit {0}
-Keeps keeps (Stopped stop incumbent rounds bound) = keeps_of incumbent ≡ keeps
+Keeps keeps (Stopped stop incumbent rounds bound) = is_some incumbent ≡ keeps

@@ -1,7 +1,7 @@
 -- What the inner functions promise each other.
-use Rattle.std.specs.Prelude.{◌≡◌, Bool, true, false, cond, List, [], ◌∷◌, ◌++◌, ℕ, zero, suc, ◌+◌, ◌-◌, ◌*◌, ◌≤◌, ◌<◌, eqb, leb, length, get_or, take, drop, Option, Some, None}
+use Rattle.std.specs.Prelude.{◌≡◌, Bool, true, false, cond, List, [], ◌∷◌, ◌++◌, ℕ, zero, suc, ◌+◌, ◌-◌, ◌*◌, ◌≤◌, ◌<◌, eqb, leb, length, get_or, take, drop, Option, IfSome}
 use Rattle.plan.specs.declared.tasks.Task.{Task}
-use Rattle.plan.specs.Tasks.{max_tasks, max_weight, AllValid, period_maxs, weights}
+use Rattle.plan.specs.Tasks.{max_tasks, max_weight, period_maxs, weights}
 use Rattle.response.specs.Analysis.{schedulable}
 use Rattle.response.specs.Assignments.{cost, dominates, within_bounds}
 use Rattle.boundary.specs.declared.node.Node.{Node}
@@ -10,7 +10,6 @@ use Rattle.optimizer.specs.Nodes.{least_of, without, dominates_some, kept, SameN
 use Rattle.optimizer.specs.Rule.{Rule, End, least, next}
 use Rattle.optimizer.specs.Search.{child, children_from, start}
 use Rattle.optimizer.specs.Promises.{Outcome, room_of, searched, written, best_searched, best_written, Answers}
-use Rattle.optimizer.specs.Answers.{keeps_of}
 use Rattle.optimizer.specs.declared.conclusion.Answer.{Answer}
 use Rattle.optimizer.specs.declared.children.Drops.{Drops}
 use Rattle.optimizer.specs.declared.children.Drops.TheVariants.{All, One, Nothing}
@@ -126,11 +125,8 @@ pub record Ready (ts : List Task) (o : OpenNodes) : Type 0 where
   pub weights : o.weights.items ≡ weights ts
   pub bounded : within_bounds ts (least_open o) ≡ true
 
--- tasks and the two spaces of a call that passed its own rules; with something feasible, too
+-- the two spaces of a call that passed its own rules; with something feasible, too
 pub record Concludes (ts : List Task) (o w : List ℕ) : Type 0 where
-  pub valid : AllValid ts
-  pub some : 1 ≤ length ts
-  pub few : length ts ≤ max_tasks
   pub sized : length o ≡ length ts
   pub room : length ts ≤ length w
 
@@ -146,10 +142,6 @@ ended_by keeps ws e = cond keeps (best_searched ws e) (searched ws e)
 abbrev pub written_by : Bool → Outcome → List ℕ → List ℕ
 written_by keeps x o = cond keeps (best_written x o) (written x o)
 
--- the cost of the incumbent, where one is kept
-abbrev pub stop_cost : List Task → Bool → List ℕ → Option ℕ
-stop_cost ts keeps best = cond keeps (Some (cost (weights ts) best)) None
-
 -- the outcome of a search: its answer, and the periods' space o before and after
 pub record Ends (keeps : Bool) (x : Outcome) (o o' : List ℕ) (r : Answer) : Type 0 where
   pub answer : r ≡ x.answer
@@ -159,9 +151,17 @@ pub record Ends (keeps : Bool) (x : Outcome) (o o' : List ℕ) (r : Answer) : Ty
 abbrev pub Leaves : Bool → Outcome → List ℕ → List ℕ → List ℕ → List ℕ → Answer → Type 0
 Leaves keeps x o o' w w' r = Answers x (written_by keeps x o) o' w w' r
 
--- an incumbent, with its cost, where one is kept, that is to be improved by the lowering of a node
-pub record Improvable (ts : List Task) (best : List ℕ) (best_cost : Option ℕ) (node : Node) : Type 0 where
+-- an incumbent: periods, with their cost
+pub record IsIncumbent (ts : List Task) (best : List ℕ) (x : Node) : Type 0 where
+  pub periods : x.periods.items ≡ best
+  pub costs : x.cost ≡ cost (weights ts) best
+
+-- the first one: the longest periods
+abbrev pub IsLongest : List Task → Node → Type 0
+IsLongest ts x = IsIncumbent ts (period_maxs ts) x
+
+-- an incumbent, where one is kept, that is to be improved by the lowering of a node
+pub record Improvable (ts : List Task) (incumbent : Option Node) (node : Node) : Type 0 where
   pub lowers : LowersNode ts node.periods.items
-  pub sized : length best ≡ length node.periods.items
-  pub best_costs : best_cost ≡ stop_cost ts (keeps_of best_cost) best
+  pub costs : IfSome incumbent (λ x. x.cost ≡ cost (weights ts) x.periods.items)
   pub node-costs : node.cost ≡ cost (weights ts) node.periods.items

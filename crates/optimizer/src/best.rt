@@ -8,6 +8,7 @@ ghost use Rattle.optimizer.specs.Promises.{BestPlans};
 use super::call::run_call;
 use super::conclusion::Conclusion;
 use super::errors::CallError;
+use super::incumbent;
 use plan::Plan;
 
 // BEST of a plan that was loaded.
@@ -21,7 +22,7 @@ pub fn best_of(
         periods.old periods.new work.old work.new (answer_of result) }
     ensures incumbent { IfOk result (λ c. Keeps true c) }
 {
-    run_call(plan, budget, true, periods, work)
+    run_call(plan, budget, Some(incumbent::longest(plan)), periods, work)
 }
 
 // BEST: as CHEAPEST; but a stop writes the incumbent, schedulable periods within the bounds, and gives its cost.
@@ -35,6 +36,6 @@ pub fn best_periods(
         periods.old periods.new work.old work.new (answer_of result) }
     ensures incumbent { IfOk result (λ c. Keeps true c) }
 {
-    let plan = plan::load_plan(file)?;
-    best_of(&plan, budget, periods, work)
+    let loaded = plan::load_plan(file)?;
+    best_of(&loaded.plan, budget, periods, work)
 }

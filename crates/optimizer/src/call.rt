@@ -1,15 +1,16 @@
-ghost use Rattle.std.specs.Prelude.{◌≡◌, length, IfOk};
+ghost use Rattle.std.specs.Prelude.{◌≡◌, length, is_some, IfSome, IfOk};
 ghost use Rattle.plan.specs.Faults.{none, first_from};
 ghost use Rattle.plan.specs.Tasks.{Valid, weights};
 ghost use Rattle.plan.specs.Promises.{plan_tasks};
 ghost use Rattle.optimizer.specs.Answers.{answer_of, call_error, Keeps};
 ghost use Rattle.optimizer.specs.Search.{incumbent_search};
-ghost use Rattle.optimizer.specs.Inner.{Concludes, ended_by, Leaves};
+ghost use Rattle.optimizer.specs.Inner.{Concludes, IsLongest, ended_by, Leaves};
 ghost use Rattle.optimizer.specs.Promises.{infeasible_alone, alone_fault, infeasible_fault, room_of, concluded, called};
 
 use super::conclusion::Conclusion;
 use super::errors::CallError;
 use super::search::search;
+use boundary::Node;
 use plan::{Plan, Task};
 use response::{Assignment, deadline, own_demand};
 
@@ -52,37 +53,40 @@ fn check_feasible(plan: &Plan) -> Result<(), CallError>
 fn conclude(
     plan: &Plan,
     budget: u64,
-    keeps: bool,
+    incumbent: Option<Node>,
     periods: &mut [u32],
     work: &mut [u32],
 ) -> Result<Conclusion, CallError>
-    requires { Concludes (plan_tasks plan.now) periods.old work.old }
-    ensures leaves { let ts = plan_tasks plan.now in
+    requires given { Concludes (plan_tasks plan.now) periods.old work.old }
+    requires first { IfSome incumbent (IsLongest (plan_tasks plan.now)) }
+    ensures leaves { let ts = plan_tasks plan.now in let keeps = is_some incumbent in
         let e = incumbent_search ts budget (room_of ts (length work.old)) in
         Leaves keeps (concluded ts (ended_by keeps (weights ts) e))
         periods.old periods.new work.old work.new (answer_of result) }
-    ensures keeps { IfOk result (λ c. Keeps keeps c) }
+    ensures keeps { IfOk result (λ c. Keeps (is_some incumbent) c) }
 {
     check_feasible(plan)?;
-    let conclusion = search(plan, budget, keeps, periods, work);
+    let conclusion = search(plan, budget, incumbent, periods, work);
     work.fill(0);
     Ok(conclusion)
 }
 
-// The call of a plan that was loaded, by CHEAPEST or, with an incumbent, by BEST: the rules of its spaces, then its
-// tasks.
+// The call of a plan that was loaded, by CHEAPEST or, with a first incumbent, by BEST: the rules of its spaces, then
+// its tasks. The incumbent is handed in as the operation has it, none or the longest periods: a flag would be turned
+// into it in `search`.
 pub fn run_call(
     plan: &Plan,
     budget: u64,
-    keeps: bool,
+    incumbent: Option<Node>,
     periods: &mut [u32],
     work: &mut [u32],
 ) -> Result<Conclusion, CallError>
-    ensures leaves { let ts = plan_tasks plan.now in let o = periods.old in
+    requires { IfSome incumbent (IsLongest (plan_tasks plan.now)) }
+    ensures leaves { let ts = plan_tasks plan.now in let o = periods.old in let keeps = is_some incumbent in
         let w = work.old in let e = incumbent_search ts budget (room_of ts (length w)) in
         Leaves keeps (called none ts (length o) (length w) (ended_by keeps (weights ts) e))
         o periods.new w work.new (answer_of result) }
-    ensures keeps { IfOk result (λ c. Keeps keeps c) }
+    ensures keeps { IfOk result (λ c. Keeps (is_some incumbent) c) }
 {
     let n = plan.tasks.len();
     if periods.len() != n {
@@ -91,5 +95,5 @@ pub fn run_call(
     if work.len() < n {
         return Err(CallError::WorkLength);
     }
-    conclude(plan, budget, keeps, periods, work)
+    conclude(plan, budget, incumbent, periods, work)
 }

@@ -11,7 +11,8 @@ use super::errors::CallError;
 use plan::Plan;
 
 // CHEAPEST of a plan that was loaded. It and BEST stay two functions of a line over `run_call`, since they carry two
-// promises: a generic one would be told apart by a type and have both all the same.
+// promises: a generic one would have both, in two impls of a trait, and its callers a type to name. (`desk` has such a
+// trait, over a whole call.)
 pub fn cheapest_of(
     plan: &Plan,
     budget: u64,
@@ -22,7 +23,7 @@ pub fn cheapest_of(
         periods.old periods.new work.old work.new (answer_of result) }
     ensures no_incumbent { IfOk result (λ c. Keeps false c) }
 {
-    run_call(plan, budget, false, periods, work)
+    run_call(plan, budget, None, periods, work)
 }
 
 // CHEAPEST: the cheapest schedulable periods within the bounds, written where there are any; the work space is left
@@ -37,6 +38,6 @@ pub fn cheapest_periods(
         periods.old periods.new work.old work.new (answer_of result) }
     ensures no_incumbent { IfOk result (λ c. Keeps false c) }
 {
-    let plan = plan::load_plan(file)?;
-    cheapest_of(&plan, budget, periods, work)
+    let loaded = plan::load_plan(file)?;
+    cheapest_of(&loaded.plan, budget, periods, work)
 }

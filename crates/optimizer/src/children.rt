@@ -1,5 +1,5 @@
 ghost use Rattle.std.specs.Prelude.{◌≡◌, ◌≤◌, length};
-ghost use Rattle.plan.specs.Tasks.{period_maxs};
+ghost use Rattle.plan.specs.Tasks.{max_tasks, period_maxs};
 ghost use Rattle.plan.specs.Promises.{plan_tasks};
 ghost use Rattle.optimizer.specs.Inner.{DroppedBy, Dropped, Above, Expands, Lists, SameSpace};
 
@@ -15,26 +15,29 @@ pub enum Drops {
 }
 
 // A child of node is node with one period set to the mua's and one more. It dominates q where q exceeds node nowhere
-// else.
+// else. Node and mua stay two slices: as fields of a struct each clause would name them by `self.now`.
 fn dropped_by(q: &[u32], node: &[u32], mua: &[u32]) -> Drops
-    requires { (length q.now ≡ length node.now) × Above node.now mua.now }
+    requires { (length q.now ≡ length node.now) × (length node.now ≤ max_tasks) × Above node.now mua.now }
     ensures { DroppedBy q.now node.now mua.now result }
 {
-    let mut over: usize = 0;
-    let mut at: usize = 0;
-    // To the end, with no branch: an early exit would be mispredicted.
-    for (i, (&period, &other)) in node.iter().zip(q).enumerate() {
-        if period < other {
+    let mut over: u32 = 0;
+    // To the end: an early exit would be mispredicted. In 32 bits, so that four periods are compared at a time; and by
+    // place, since zip tests two ends.
+    for (i, &period) in node.iter().enumerate() {
+        if period < q[i] {
             over += 1;
-            at = i;
         }
-    }
-    if over == 0 {
-        return Drops::All;
     }
     if 1 < over {
         return Drops::Nothing;
     }
+    let Some(at) = node
+        .iter()
+        .zip(q)
+        .position(|(period, other)| period < other)
+    else {
+        return Drops::All;
+    };
     if q[at] - 1 <= mua[at] {
         return Drops::One(at);
     }
@@ -42,7 +45,9 @@ fn dropped_by(q: &[u32], node: &[u32], mua: &[u32]) -> Drops
 }
 
 // Which children of node dominate an open node, in one pass over the open nodes: a mark a task, by place. Sixteen flags
-// have no length beside them; a vector would be filled to its end all the same.
+// have no length beside them; a vector would be filled to its end all the same. A function of its own in the archive,
+// too: drawn into the whole search its loop is compiled worse.
+#[inline(never)]
 fn dropped(nodes: &OpenNodes, node: &[u32], mua: &[u32]) -> [bool; Plan::MAX_TASKS]
     requires { Expands nodes.now node.now mua.now }
     ensures { Dropped nodes.now node.now mua.now result }

@@ -1,41 +1,46 @@
-ghost use Rattle.std.specs.Prelude.{◌≡◌, cond, length};
-ghost use Rattle.plan.specs.Tasks.{period_maxs};
+ghost use Rattle.std.specs.Prelude.{◌≡◌, length, is_some, IfSome};
+ghost use Rattle.std.specs.Option.{option_map, option_map_or};
 ghost use Rattle.plan.specs.Promises.{plan_tasks};
 ghost use Rattle.response.specs.Analysis.{schedulable};
-ghost use Rattle.optimizer.specs.Answers.{keeps_of};
 ghost use Rattle.optimizer.specs.Search.{improved};
-ghost use Rattle.optimizer.specs.Inner.{Improvable, stop_cost};
+ghost use Rattle.optimizer.specs.Inner.{IsIncumbent, IsLongest, Improvable};
 
 use super::order::{cost_of, is_less};
 use boundary::{Node, lowering_of};
 use plan::Plan;
 
-// The first incumbent, where one is kept: the longest periods. Its cost.
-pub fn begin(plan: &Plan, keeps: bool, best: &mut [u32]) -> Option<u64>
-    requires { length best.old ≡ length (plan_tasks plan.now) }
-    ensures is { best.new ≡ cond keeps (period_maxs (plan_tasks plan.now)) best.old }
-    ensures costs { result ≡ stop_cost (plan_tasks plan.now) keeps best.new }
+// The first incumbent: the longest periods.
+pub fn longest(plan: &Plan) -> Node
+    ensures { IsLongest (plan_tasks plan.now) result }
 {
-    if !keeps {
-        return None;
-    }
-    best.copy_from_slice(&plan.column(|task| task.period_max));
-    Some(cost_of(&plan.column(|task| task.weight), best))
+    let periods = plan.column(|task| task.period_max);
+    let cost = cost_of(&plan.column(|task| task.weight), &periods);
+    Node { cost, periods }
 }
 
-// The lowering of an unschedulable node becomes the incumbent, where one is kept, if it is less. The cost of the
-// incumbent then.
-pub fn improve(plan: &Plan, best: &mut [u32], best_cost: Option<u64>, node: &Node) -> Option<u64>
-    requires { Improvable (plan_tasks plan.now) best.old best_cost node.now }
-    ensures is { let ts = plan_tasks plan.now in let p = best.old in
-        best.new ≡ cond (keeps_of best_cost) (improved ts (schedulable ts) p node.now.periods.items) p }
-    ensures costs { result ≡ stop_cost (plan_tasks plan.now) (keeps_of best_cost) best.new }
+// The lowering of an unschedulable node becomes the incumbent, where one is kept, if it is less.
+pub fn improve(plan: &Plan, incumbent: &mut Option<Node>, node: &Node)
+    requires { Improvable (plan_tasks plan.now) incumbent.old node.now }
+    ensures keeps { is_some incumbent.new ≡ is_some incumbent.old }
+    ensures improved { let ts = plan_tasks plan.now in
+        IfSome incumbent.old (λ best. IfSome incumbent.new
+        (IsIncumbent ts (improved ts (schedulable ts) best.periods.items node.now.periods.items))) }
 {
-    let limit = best_cost?;
-    let lowered = lowering_of(plan, node, limit);
-    if !is_less(lowered.cost, limit, &lowered.periods, best) {
-        return best_cost;
+    if let Some(best) = incumbent {
+        let lowered = lowering_of(plan, node, best.cost);
+        if is_less(lowered.cost, best.cost, &lowered.periods, &best.periods) {
+            *best = lowered;
+        }
     }
-    best.copy_from_slice(&lowered.periods);
-    Some(lowered.cost)
+}
+
+// The incumbent's periods go into their space, where one is kept. Its cost.
+pub fn write(incumbent: Option<Node>, periods: &mut [u32]) -> Option<u64>
+    requires { IfSome incumbent (λ best. length periods.old ≡ length best.periods.items) }
+    ensures cost { result ≡ option_map (λ best. best.cost) incumbent }
+    ensures written { periods.new ≡ option_map_or (λ best. best.periods.items) incumbent periods.old }
+{
+    let best = incumbent?;
+    periods.copy_from_slice(&best.periods);
+    Some(best.cost)
 }

@@ -2,12 +2,12 @@ ghost use Rattle.std.specs.Prelude.{◌≤◌, ◌*◌, length};
 ghost use Rattle.optimizer.specs.Space.{Light};
 
 use super::order::{cost_of, is_less};
-use boundary::{Node, copied};
+use boundary::Node;
 use plan::{PerTask, Plan};
 
 // The open nodes of a search: so many assignments, each in its own stretch of the work space, which has room for more;
-// and the weights of their costs, copied out once, since they are read for every open node in every round. The work space
-// is one flat array, as it is lent, and the requirement has the stretches in it.
+// and the weights of their costs, copied out once, since they are read for every open node in every round. The work
+// space is one flat array, as it is lent, and the requirement has the stretches in it.
 #[derive(Drop)]
 pub struct OpenNodes<'w> {
     pub work: &'w mut [u32],
@@ -28,12 +28,10 @@ pub struct Least {
 
 impl<'w> OpenNodes<'w> {
     ghost use Rattle.std.specs.Prelude.{◌≡◌, [], ◌∷◌, ◌++◌, ◌+◌, ◌-◌, ◌<◌, set};
-    ghost use Rattle.plan.specs.Tasks.{period_mins, weights};
     ghost use Rattle.plan.specs.Promises.{plan_tasks};
     ghost use Rattle.response.specs.Assignments.{cost};
     ghost use Rattle.optimizer.specs.Nodes.{without, SameNodes};
-    ghost use Rattle.optimizer.specs.Promises.{room_of};
-    ghost use Rattle.optimizer.specs.Inner.{node_at, put, open_nodes, least_open, SameSpace, Starts, IsLeast, Taken};
+    ghost use Rattle.optimizer.specs.Inner.{node_at, put, open_nodes, SameSpace, Starts, IsLeast, Taken};
 
     // The shortest periods alone.
     pub fn start(plan: &Plan, work: &'w mut [u32]) -> OpenNodes<'w>
@@ -97,7 +95,10 @@ impl<'w> OpenNodes<'w> {
         cost_of(&self.weights, self.node(k))
     }
 
-    fn least(&self) -> Least
+    // The least of them. That there is one is asked, and is no fact of the type: between taking a node and listing its
+    // children there may be none. An Option would be unwrapped by the same fact wherever it is called. A loop, since
+    // `min_by` compares by an `Ordering`, as tuples do (`is_less`).
+    pub fn least(&self) -> Least
         requires { 1 ≤ self.now.count }
         ensures { IsLeast self.now result }
     {
@@ -121,20 +122,12 @@ impl<'w> OpenNodes<'w> {
         ensures taken { Taken self.old self.new result }
     {
         let least = self.least();
-        let periods = copied(self.node(least.node));
+        let periods = PerTask::try_from(self.node(least.node)).unwrap();
         self.remove(least.node);
         Node {
             cost: least.cost,
             periods,
         }
-    }
-
-    // The cost of the least open node.
-    pub fn bound(&self) -> u64
-        requires { 1 ≤ self.now.count }
-        ensures { result ≡ cost self.now.weights.items (least_open self.now) }
-    {
-        self.least().cost
     }
 
     // Lists a child after the open nodes: node with one period set.

@@ -1,4 +1,3 @@
-ghost use Rattle.std.specs.Prelude.{length};
 ghost use Rattle.plan.specs.Promises.{plan_tasks};
 ghost use Rattle.response.specs.Analysis.{schedulable};
 ghost use Rattle.optimizer.specs.Search.{rule};
