@@ -1,11 +1,10 @@
 -- The block's bytes: stored field by field and number by number, and what they read back as.
 use mathlib.Core.Path.{◌≡◌, refl, sym, ap, ◌∙◌}
 use mathlib.Core.List.{List, [], ◌∷◌, ◌++◌, append_assoc}
-use Prim.Native.Nat.{ℕ, suc, ◌+◌, ◌*◌, ◌/◌, ◌^◌, ◌<◌}
+use Prim.Native.Nat.{ℕ, suc, ◌+◌, ◌*◌, ◌^◌, ◌<◌}
 use native.Mathlib.Omega.{arith}
 use lib.ListN.{length, length-append}
 use lib.Seq.{sets, take_at, drop_at}
-use Rattle.std.specs.Int.{w64, to_le_bytes}
 use Rattle.plan.specs.Lists.{tabulate}
 use Rattle.plan.specs.Words.{bytes_of, words_of, word}
 use Rattle.plan.specs.Tasks.{max_tasks}
@@ -15,18 +14,6 @@ use Rattle.optimizer.specs.declared.conclusion.Answer.{Answer}
 use Rattle.desk.specs.declared.block.Carried.{Carried}
 use Rattle.desk.specs.Block.{block_size, periods_at, answer_bytes, encoded, carried}
 use Rattle.desk.specs.Inner.{Narrow, Writes}
-
--- a number's bytes by their places are its bytes
-pub eight-bytes : (v : ℕ) → to_le_bytes w64 v ≡ bytes_of 8 v
-unfolding bytes_of
-eight-bytes v =
-    let a : v / 256 ^ 2 ≡ v / 256 / 256 = omega arith in
-    let b : v / 256 ^ 3 ≡ v / 256 / 256 / 256 = omega arith in
-    let c : v / 256 ^ 4 ≡ v / 256 / 256 / 256 / 256 = omega arith in
-    let d : v / 256 ^ 5 ≡ v / 256 / 256 / 256 / 256 / 256 = omega arith in
-    let e : v / 256 ^ 6 ≡ v / 256 / 256 / 256 / 256 / 256 / 256 = omega arith in
-    let f : v / 256 ^ 7 ≡ v / 256 / 256 / 256 / 256 / 256 / 256 / 256 = omega arith in
-    rw (a, b, c, d, e, f)
 
 pub answer-put : (b : List ℕ) (a : Answer) (n : ℕ)
     → put

@@ -1,7 +1,7 @@
-ghost use Rattle.std.specs.Prelude.{◌≡◌, length};
+ghost use Rattle.std.specs.Prelude.{◌≡◌};
 ghost use Rattle.std.proofs.lemmas.List.Edits.{sets};
 ghost use Rattle.plan.specs.Words.{words_of};
-ghost use Rattle.desk.specs.Block.{block_size, periods_at, answer_bytes};
+ghost use Rattle.desk.specs.Block.{periods_at};
 ghost use Rattle.desk.specs.Inner.{Narrow, Writes};
 
 use optimizer::Answer;
@@ -21,35 +21,28 @@ impl Carried {
 
     const PERIODS_AT: usize = 36;
 
-    // The bytes before the periods.
-    fn put_answer(&self, block: &mut [u8])
-        requires { length block.old ≡ block_size }
-        ensures { block.new ≡ sets block.old 0 (answer_bytes self.now.answer self.now.tasks) }
-    {
-        let answer = &self.answer;
-        put_bytes(block, 0, &answer.fault.number.to_le_bytes());
-        put_bytes(block, 4, &answer.fault.place.to_le_bytes());
-        put_bytes(block, 8, &answer.cost.to_le_bytes());
-        put_bytes(block, 16, &answer.rounds.to_le_bytes());
-        put_bytes(block, 24, &answer.bound.to_le_bytes());
-        put_bytes(block, 32, &self.tasks.to_le_bytes());
-    }
-
-    // The periods behind them, which fit in 4 bytes each.
-    fn put_periods(block: &mut [u8], periods: &[u32; Plan::MAX_TASKS])
-        requires { length block.old ≡ block_size }
+    // The periods behind the answer. By itself, since the check says of an array behind a reference alone that its numbers
+    // fit their type.
+    fn put_periods(block: &mut [u8; Carried::SIZE], periods: &[u32; Plan::MAX_TASKS])
         ensures put { block.new ≡ sets block.old periods_at (words_of periods.now) }
         ensures narrow { Narrow periods.now }
     {
         put_words(block, Carried::PERIODS_AT, periods);
     }
 
-    // The whole block. By value: of numbers behind a reference the check doesn't say that they fit their types.
-    pub fn write(self, block: &mut [u8])
-        requires { length block.old ≡ block_size }
-        ensures { Writes self block.new }
+    // The block.
+    pub fn to_bytes(self) -> [u8; Carried::SIZE]
+        ensures { Writes self result }
     {
-        self.put_answer(block);
-        Carried::put_periods(block, &self.periods);
+        let answer = self.answer;
+        let mut block = [0; Carried::SIZE];
+        put_bytes(&mut block, 0, &answer.fault.number.to_le_bytes());
+        put_bytes(&mut block, 4, &answer.fault.place.to_le_bytes());
+        put_bytes(&mut block, 8, &answer.cost.to_le_bytes());
+        put_bytes(&mut block, 16, &answer.rounds.to_le_bytes());
+        put_bytes(&mut block, 24, &answer.bound.to_le_bytes());
+        put_bytes(&mut block, 32, &self.tasks.to_le_bytes());
+        Carried::put_periods(&mut block, &self.periods);
+        block
     }
 }

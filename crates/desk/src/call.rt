@@ -11,10 +11,10 @@ fn find_periods<O: Operation>(file: &[u8], budget: u64) -> Carried
 {
     let mut periods = [0; Plan::MAX_TASKS];
     match plan::load_plan(file) {
-        Ok(plan) => {
-            let n = plan.tasks.len();
+        Ok(loaded) => {
+            let n = loaded.plan.tasks.len();
             let mut work = [0; WORK];
-            let ended = O::run(&plan, budget, &mut periods[..n], &mut work);
+            let ended = O::run(&loaded.plan, budget, &mut periods[..n], &mut work);
             Carried {
                 answer: ended.into(),
                 tasks: n as u32,
@@ -38,6 +38,6 @@ pub fn fill_block<O: Operation>(file: &[u8], block: &mut [u8], budget: u64) -> u
         return 25;
     }
     let carried = find_periods::<O>(file, budget);
-    carried.write(block);
+    block.copy_from_slice(&carried.to_bytes());
     carried.answer.fault.number
 }
