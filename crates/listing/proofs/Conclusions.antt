@@ -3,7 +3,7 @@ use mathlib.Core.Path.{◌≡◌, sym, ap, ◌∙◌}
 use mathlib.Core.Bool.{true}
 use mathlib.Core.Logic.{inl, inr}
 use mathlib.Core.List.{List, [], ◌∷◌, ◌++◌}
-use Prim.Native.Nat.{ℕ, ◌≤◌, ◌<◌}
+use Prim.Native.Nat.{ℕ}
 use native.Mathlib.Omega.{arith}
 use lib.ListN.{length}
 use borrow.Author.Tests.{eq-eqb, ne_eqb, lt-ltb}
@@ -25,8 +25,7 @@ use Rattle.response.specs.Promises.{times_of}
 use Rattle.response.proofs.Bounds.{Within, within-true}
 use Rattle.response.proofs.Ranges.{limits-within}
 use Rattle.optimizer.specs.declared.errors.CallError.{CallError}
-use Rattle.optimizer.specs.declared.errors.CallError.TheVariants.{Read, PeriodsLength, WorkLength}
-use Rattle.optimizer.specs.declared.errors.CallError.TheVariants.{InfeasibleAlone, Infeasible}
+use Rattle.optimizer.specs.declared.errors.CallError.TheVariants.{Read}
 use Rattle.optimizer.specs.declared.conclusion.Answer.{Answer}
 use Rattle.optimizer.specs.declared.conclusion.Conclusion.TheVariants.{Answered, Stopped}
 use Rattle.optimizer.specs.declared.conclusion.Stop.{Stop}
@@ -34,17 +33,10 @@ use Rattle.optimizer.specs.declared.conclusion.Stop.TheVariants.{Budget, Room}
 use Rattle.optimizer.specs.Answers.{call_error_fault, stop_fault, answer_of}
 use Rattle.optimizer.specs.Promises.{Outcome, refused, outcome_of, outcome, call_fault, cleared, written}
 use Rattle.optimizer.specs.Promises.{Answers, Plans}
+use Rattle.optimizer.proofs.Numbers.{call-error-numbers}
 use Rattle.listing.specs.Text.{line, decimal, cost_word, rounds_word, bound_word, refusal_fields, task_lines}
 use Rattle.listing.specs.Text.{listing_for, listing_of}
 use Rattle.plan.proofs.Numbers.{read-error-numbers}
-
--- a refusal has a number that is no stop's
-call-error-numbers : (e : CallError) → (1 ≤ (call_error_fault e).number) × ((call_error_fault e).number < 33)
-call-error-numbers (Read e) = (omega (arith, read-error-numbers e), omega (arith, read-error-numbers e))
-call-error-numbers PeriodsLength = (omega arith, omega arith)
-call-error-numbers WorkLength = (omega arith, omega arith)
-call-error-numbers (InfeasibleAlone task) = (omega arith, omega arith)
-call-error-numbers (Infeasible task) = (omega arith, omega arith)
 
 refusal-text : (e : CallError) (s : List ℕ) (x : Outcome) → call_error_fault e ≡ x.answer.fault
     → line (refusal_fields (call_error_fault e)) ≡ listing_for s x
@@ -52,7 +44,7 @@ unfolding listing_for
 refusal-text e s x h =
     let k = call-error-numbers e in
     let n : ℕ = (call_error_fault e).number in
-    rw (← h, ne_eqb n 0 (λ z. omega arith), lt-ltb n 33 k.1)
+    rw (← h, ne_eqb n 0 (λ z. omega arith), lt-ltb n 33 (omega (arith, k.1)))
 
 -- a file that is refused
 module _ (e : ReadError) (s : List ℕ) (h : read_error_fault e ≡ file_fault s) (budget : ℕ) (w : List ℕ) where

@@ -1,5 +1,5 @@
 -- The lines of the tasks.
-use mathlib.Core.Path.{◌≡◌, refl, sym, ap, ◌∙◌}
+use mathlib.Core.Path.{◌≡◌, refl, sym, ◌∙◌}
 use mathlib.Core.Logic.{inl, inr}
 use mathlib.Core.List.{List, [], ◌∷◌, ◌++◌}
 use Prim.Native.Nat.{ℕ, zero, suc, ◌+◌, ◌-◌, ◌≤◌, ◌<◌}
@@ -10,13 +10,11 @@ use lib.Dec.{eqb}
 use lib.ListN.{length, get_or, length-take}
 use Rattle.std.specs.Prelude.{unwrap_or}
 use Rattle.plan.specs.declared.record.Plan.{Plan}
-use Rattle.plan.specs.Layout.{name_width, task_count}
+use Rattle.plan.specs.Layout.{name_width}
 use Rattle.plan.specs.Names.{name_field, without_zeros}
 use Rattle.plan.specs.Files.{is_named, name_of}
-use Rattle.plan.specs.Inner.{NameAt}
 use Rattle.plan.specs.Promises.{plan_tasks, Loads, Names}
 use Rattle.plan.proofs.Tests.{bool}
-use Rattle.plan.proofs.Accepted.{tasks-length}
 use Rattle.response.specs.Analysis.{response_time}
 use Rattle.response.specs.Inner.{Limits, some_time}
 use Rattle.response.specs.Promises.{times_of}
@@ -44,12 +42,6 @@ time-or-zero (suc t) = refl
 -- a task of a file's plan at given periods
 module _ {s : List ℕ} {plan : Plan} {xs : List ℕ} {i : ℕ} (l : Loads s plan) (m : Limits (plan_tasks plan) xs)
     (h : i < length xs) where
-  count : length (plan_tasks plan) ≡ task_count s
-  count = ap length l.tasks ∙ tasks-length s l.accepts
-
-  pub has-name : NameAt s plan.names i
-  has-name = record { accepts = l.accepts; inside = omega (arith, count, m.sized); begins = l.names }
-
   time-is : unwrap_or (some_time (response_time (plan_tasks plan) xs i)) 0 ≡ get_or (times_of s xs) i 0
   time-is =
       rw (← l.tasks) (time-or-zero _ ∙ sym (times-at (plan_tasks plan) xs i (omega (arith, m.sized))))

@@ -1,6 +1,7 @@
 ghost use Rattle.std.specs.Prelude.{◌≡◌, [], ◌∷◌, ◌++◌, ◌+◌, ◌*◌, ◌≤◌, length};
 ghost use Rattle.plan.specs.Tasks.{max_tasks};
-ghost use Rattle.plan.specs.Promises.{Loads};
+ghost use Rattle.plan.specs.Promises.{plan_tasks};
+ghost use Rattle.response.specs.Inner.{Limits};
 ghost use Rattle.response.specs.Promises.{times_of};
 ghost use Rattle.optimizer.specs.Answers.{stop_fault};
 ghost use Rattle.listing.specs.Text.{decimal, fields, line, refusal_fields, task_lines};
@@ -9,7 +10,7 @@ ghost use Rattle.listing.specs.Inner.{line_size, listing_size};
 
 use super::writer::{Listing, put_labelled, put_number};
 use optimizer::Stop;
-use plan::Fault;
+use plan::{Fault, PlanFile};
 use response::Assignment;
 
 // A refusal's number and place, and the byte after them.
@@ -52,31 +53,35 @@ fn put_task(text: &mut Listing, name: &[u8], period: u32, time: u32)
     put_number(text, u64::from(time), b'\n');
 }
 
-// The lines of a file's tasks at given periods. As TIMES has it, the time of a task that misses its deadline is 0.
-fn put_tasks(text: &mut Listing, file: &[u8], assignment: &Assignment)
+// The lines of a file's tasks at given periods. As TIMES has it, the time of a task that misses its deadline is 0. Periods
+// are lent, and no `Assignment`: in place of their limits it would be asked that its plan is the file's.
+fn put_tasks(text: &mut Listing, file: &PlanFile, periods: &[u32])
     requires room { length text.old.items + line_size * max_tasks ≤ listing_size }
-    requires loads { Loads file.now assignment.now.plan.now }
-    ensures { let xs = assignment.now.periods.now in
-        text.new.items ≡ text.old.items ++ task_lines file.now xs (times_of file.now xs) (length xs) }
+    requires limits { Limits (plan_tasks file.now.plan) periods.now }
+    ensures { let s = file.now.located.file.now in let xs = periods.now in
+        text.new.items ≡ text.old.items ++ task_lines s xs (times_of s xs) (length xs) }
 {
-    for (i, &period) in assignment.periods.iter().enumerate() {
-        let name = plan::name_at(file, assignment.plan.names, i);
+    let assignment = Assignment {
+        plan: &file.plan,
+        periods,
+    };
+    for (i, &period) in periods.iter().enumerate() {
         let time = assignment.response_time(i).unwrap_or(0);
-        put_task(text, name, period, time);
+        put_task(text, file.name(i), period, time);
     }
 }
 
 // An answer: its cost and its rounds, then the lines of the file's tasks.
-pub fn list_answer(file: &[u8], assignment: &Assignment, cost: u64, rounds: u64) -> Listing
-    requires { Loads file.now assignment.now.plan.now }
-    ensures { let xs = assignment.now.periods.now in
+pub fn list_answer(file: &PlanFile, periods: &[u32], cost: u64, rounds: u64) -> Listing
+    requires { Limits (plan_tasks file.now.plan) periods.now }
+    ensures { let s = file.now.located.file.now in let xs = periods.now in
         result.items
         ≡ line (cost_word ∷ decimal cost ∷ rounds_word ∷ decimal rounds ∷ [])
-        ++ task_lines file.now xs (times_of file.now xs) (length xs) }
+        ++ task_lines s xs (times_of s xs) (length xs) }
 {
     let mut text = Listing::new();
     put_labelled(&mut text, b"cost", cost, b' ');
     put_labelled(&mut text, b"rounds", rounds, b'\n');
-    put_tasks(&mut text, file, assignment);
+    put_tasks(&mut text, file, periods);
     text
 }

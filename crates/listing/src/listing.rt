@@ -8,7 +8,6 @@ use super::lines::{list_answer, list_refusal, list_stop};
 use super::writer::Listing;
 use optimizer::{Conclusion, WORK};
 use plan::{Fault, Plan};
-use response::Assignment;
 
 // One byte more than a plan file may have, so that a longer one is refused for its length.
 pub const INPUT_SIZE: usize = Plan::MAX_FILE + 1;
@@ -22,17 +21,12 @@ fn list_conclusion(file: &[u8], budget: u64, work: &mut [u32]) -> Result<Listing
     ensures work { let s = file.now in
         work.new ≡ cleared (outcome s budget (length (tasks_of s)) (length work.old)) work.old }
 {
-    let plan = plan::load_plan(file)?;
-    let mut space = plan.column(|_| 0);
+    let loaded = plan::load_plan(file)?;
+    // A space with a number for each task.
+    let mut space = loaded.plan.column(|_| 0);
     let periods = space.as_mut_slice();
-    match optimizer::cheapest_of(&plan, budget, periods, work)? {
-        Conclusion::Answered { cost, rounds } => {
-            let assignment = Assignment {
-                plan: &plan,
-                periods,
-            };
-            Ok(list_answer(file, &assignment, cost, rounds))
-        }
+    match optimizer::cheapest_of(&loaded.plan, budget, periods, work)? {
+        Conclusion::Answered { cost, rounds } => Ok(list_answer(&loaded, periods, cost, rounds)),
         Conclusion::Stopped {
             stop,
             rounds,
