@@ -1,11 +1,22 @@
 use super::example::{Call, Choice, Example};
-use super::operations::Outcome;
-use super::show::{Bytes, Numbers};
-use listing::INPUT_SIZE;
-use optimizer::Answer;
+use super::operations::are_all;
+use super::show::{Bytes, Numbers, Refusal};
+use listing::{INPUT_SIZE, Listing};
+use optimizer::{Answer, WORK};
 use plan::{Fault, WriteError};
 use response::Times;
 use std::io;
+
+// What an operation gives, or the default with its refusal.
+fn given<T: Default + Drop, E>(answer: Result<T, E>) -> (T, Refusal)
+where
+    Fault: From<E>,
+{
+    match answer {
+        Ok(given) => (given, Refusal(None)),
+        Err(error) => (T::default(), Refusal(Some(Fault::from(error)))),
+    }
+}
 
 // NAME's answers for every task number from 0 to one above the last.
 fn show_names(rt: &impl Print, file: &[u8], tasks: u32) -> io::Result<()> {
@@ -15,18 +26,9 @@ fn show_names(rt: &impl Print, file: &[u8], tasks: u32) -> io::Result<()> {
     Ok(())
 }
 
-fn show_refusal(rt: &impl Print, refusal: Option<Fault>) -> io::Result<()> {
-    match refusal {
-        Some(Fault { number, place }) => print!(rt; " refused {number} {place}"),
-        None => Ok(()),
-    }
-}
-
 fn try_read(rt: &impl Print, file: &[u8]) -> io::Result<()> {
-    let answer = plan::read_plan(file);
-    let tasks = answer.unwrap_or(0);
-    show_refusal(rt, answer.err().map(Fault::from))?;
-    print!(rt; " {tasks}")?;
+    let (tasks, refusal) = given(plan::read_plan(file));
+    print!(rt; "{refusal} {tasks}")?;
     show_names(rt, file, tasks)?;
     println!(rt;)
 }
@@ -48,58 +50,54 @@ fn try_write(rt: &impl Print, file: &[u8], space: usize) -> io::Result<()> {
 fn try_times(rt: &impl Print, file: &[u8], periods: &[u32], space: usize) -> io::Result<()> {
     let mut times = [7; 17];
     let times = &mut times[..space.min(17)];
-    let answer = response::response_times(file, periods, times);
-    let Times { missed, first } = answer.unwrap_or_default();
+    let (Times { missed, first }, refusal) = given(response::response_times(file, periods, times));
     let first = first.unwrap_or(0);
-    show_refusal(rt, answer.err().map(Fault::from))?;
-    println!(rt; " missed {missed} first {first} times{}", Numbers(times))
+    println!(rt;
+        "{refusal} missed {missed} first {first} times{}",
+        Numbers(times)
+    )
 }
 
 // How a call left a work space whose numbers were 7.
 fn state(work: &[u32]) -> &'static str {
-    if work.iter().all(|number| *number == 7) {
+    if are_all(work, 7) {
         "untouched"
-    } else if work.iter().all(|number| *number == 0) {
+    } else if are_all(work, 0) {
         "zero"
     } else {
         "left over"
     }
 }
 
-fn show_conclusion(rt: &impl Print, outcome: Outcome) -> io::Result<()> {
+// CHEAPEST or BEST with the spaces of the call; the numbers of both are 7.
+fn try_choice(rt: &impl Print, file: &[u8], choice: Choice) -> io::Result<()> {
+    let mut periods = [7; 17];
+    let mut work = [7; WORK];
+    let periods = &mut periods[..choice.space.min(17)];
+    let work = &mut work[..choice.room.min(WORK)];
+    let outcome = choice.planner.choose(file, choice.budget, periods, work);
     let Answer {
-        fault,
+        fault: Fault { number, place },
         cost,
         rounds,
         bound,
     } = outcome.into();
-    let Fault { number, place } = fault;
-    print!(rt; " {number} {place} cost {cost} rounds {rounds} bound {bound}")
-}
-
-// CHEAPEST or BEST with the spaces of the call; the numbers of both are 7.
-fn try_choice(rt: &impl Print, file: &[u8], choice: Choice) -> io::Result<()> {
-    let mut periods = [7; 17];
-    let mut work = [7; 16000];
-    let periods = &mut periods[..choice.space.min(17)];
-    let work = &mut work[..choice.room.min(16000)];
-    let answer = choice.planner.choose(file, choice.budget, periods, work);
-    show_conclusion(rt, answer)?;
-    println!(rt; " periods{} work {}", Numbers(periods), state(work))
+    let periods = Numbers(periods);
+    let work = state(work);
+    println!(rt;
+        " {number} {place} cost {cost} rounds {rounds} bound {bound} periods{periods} work {work}"
+    )
 }
 
 // The listing of a file, as program timetable writes it, with the budget and the room of the call.
-fn try_list(rt: &impl Print, file: &[u8], budget: u64, room: usize) -> io::Result<()> {
-    let mut work = [7; 16000];
-    let work = &mut work[..room.min(16000)];
-    println!(rt;)?;
-    rt.write_all(&listing::list_plan(file, budget, work))
+fn list(file: &[u8], budget: u64, room: usize) -> Listing {
+    let mut work = [7; WORK];
+    listing::list_plan(file, budget, &mut work[..room.min(WORK)])
 }
 
-// What program timetable writes of a file.
-fn try_print(rt: &impl Print, file: &[u8]) -> io::Result<()> {
+fn show_listing(rt: &impl Print, listing: &Listing) -> io::Result<()> {
     println!(rt;)?;
-    rt.write_all(&listing::list_input(file))
+    rt.write_all(listing)
 }
 
 fn try_example(rt: &impl Print, example: &Example) -> io::Result<()> {
@@ -111,8 +109,8 @@ fn try_example(rt: &impl Print, example: &Example) -> io::Result<()> {
         Call::Write { space } => try_write(rt, file, *space),
         Call::Times { space, periods } => try_times(rt, file, periods, *space),
         Call::Choose(choice) => try_choice(rt, file, *choice),
-        Call::List { budget, room } => try_list(rt, file, *budget, *room),
-        Call::Print => try_print(rt, file),
+        Call::List { budget, room } => show_listing(rt, &list(file, *budget, *room)),
+        Call::Print => show_listing(rt, &listing::list_input(file)),
     }
 }
 

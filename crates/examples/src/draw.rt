@@ -1,5 +1,6 @@
-ghost use Rattle.std.specs.Prelude.{◌<◌, ◌≤◌, length};
+ghost use Rattle.std.specs.Prelude.{◌<◌};
 
+use super::small::{Assignment, PLACES, Place, SmallPlan};
 use plan::Task;
 use std::array;
 use std::ops::RangeInclusive;
@@ -39,10 +40,8 @@ impl Sequence {
     }
 
     // A small task, by five numbers from 0 on, and with blocking and jitter up to `most` by numbers 30 to 35.
-    fn draw_task(&self, i: usize, most: u32) -> Task
-        requires { i < 3 }
-    {
-        let from = 5 * i;
+    fn draw_task(&self, place: Place, most: u32) -> Task {
+        let from = 5 * place.index();
         let period_min = self.draw(from + 1, 1..=4);
         Task {
             wcet: self.draw(from, 1..=4),
@@ -50,51 +49,30 @@ impl Sequence {
             period_max: self.draw(from + 2, period_min..=period_min.saturating_add(7)),
             deadline_cap: self.draw(from + 3, 1..=24),
             weight: self.draw(from + 4, 0..=3),
-            blocking: self.draw(30 + i, 0..=most),
-            jitter: self.draw(33 + i, 0..=most),
+            blocking: self.draw(30 + place.index(), 0..=most),
+            jitter: self.draw(33 + place.index(), 0..=most),
         }
     }
 
-    // Periods within the bounds for up to three tasks in run k of four, by numbers 16 to 27.
-    pub(crate) fn draw_periods(&self, run: usize, tasks: &[Task]) -> [u32; 3]
-        requires run { run < 4 }
-        requires tasks { length tasks.now ≤ 3 }
+    // As many tasks as number 15 says.
+    pub(crate) fn draw_plan(&self, most: u32) -> SmallPlan {
+        let count = self.draw(15, 1..=3).clamp(1, 3) as usize;
+        let mut tasks = [Task::default(); 3];
+        for place in &PLACES[..count] {
+            tasks[place.index()] = self.draw_task(*place, most);
+        }
+        SmallPlan { tasks, count }
+    }
+
+    // Periods within the bounds in run k of four, by numbers 16 to 27.
+    pub(crate) fn draw_periods(&self, run: usize, plan: &SmallPlan) -> Assignment
+        requires { run < 4 }
     {
-        let mut periods = [0; 3];
-        for (i, task) in tasks.iter().enumerate() {
-            periods[i] = self.draw(16 + 3 * run + i, task.period_min..=task.period_max);
+        let mut drawn = plan.least();
+        for place in plan.places() {
+            let period = self.draw(16 + 3 * run + place.index(), plan.bounds(*place));
+            drawn = drawn.with(*place, period);
         }
-        periods
-    }
-}
-
-// One, two or three small tasks: an array with a count, since a literal draws all three, where a vector would be filled
-// by a loop with an invariant.
-#[derive(Clone, Copy)]
-pub(crate) struct SmallPlan {
-    tasks: [Task; 3],
-    count: usize,
-    ghost some: { 0 < count },
-    ghost fits: { count ≤ length tasks },
-}
-
-impl SmallPlan {
-    // How many tasks number 15 says.
-    pub(crate) fn draw(sequence: &Sequence, most: u32) -> SmallPlan {
-        SmallPlan {
-            tasks: [
-                sequence.draw_task(0, most),
-                sequence.draw_task(1, most),
-                sequence.draw_task(2, most),
-            ],
-            count: sequence.draw(15, 1..=3).clamp(1, 3) as usize,
-        }
-    }
-
-    pub(crate) fn tasks(&self) -> &[Task]
-        ensures some { 0 < length result.now }
-        ensures few { length result.now ≤ 3 }
-    {
-        &self.tasks[..self.count]
+        drawn
     }
 }

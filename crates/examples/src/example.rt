@@ -1,7 +1,7 @@
-use super::file::PlanFile;
+use super::file::TestFile;
 use super::operations::Planner;
 use arrayvec::ArrayVec;
-use std::str::{FromStr, SplitWhitespace};
+use std::str::SplitWhitespace;
 
 // CHEAPEST or BEST with a budget, a space for so many periods and a work space of so many numbers.
 #[derive(Clone, Copy)]
@@ -13,12 +13,12 @@ pub(crate) struct Choice {
 }
 
 impl Choice {
-    fn parse(planner: Planner, words: &mut SplitWhitespace<'_>) -> Option<Choice> {
+    fn parse(planner: Planner, mut words: SplitWhitespace<'_>) -> Option<Choice> {
         Some(Choice {
             planner,
-            budget: labelled(words, "budget")?,
-            space: labelled(words, "space")?,
-            room: labelled(words, "room")?,
+            budget: labelled(&mut words, "budget")?,
+            space: labelled(&mut words, "space")? as usize,
+            room: labelled(&mut words, "room")? as usize,
         })
     }
 }
@@ -43,24 +43,22 @@ pub(crate) enum Call {
 }
 
 // The number behind its label.
-fn labelled<T: FromStr>(words: &mut SplitWhitespace<'_>, label: &str) -> Option<T>
-where
-    T::Err: Drop,
-{
-    if words.next()? != label {
-        return None;
+fn labelled(words: &mut SplitWhitespace<'_>, label: &str) -> Option<u64> {
+    if words.next()? == label {
+        words.next()?.parse().ok()
+    } else {
+        None
     }
-    words.next()?.parse().ok()
 }
 
 // The periods of a call, behind their number and, where there are any, the word `at`.
-fn listed(words: &mut SplitWhitespace<'_>) -> Option<ArrayVec<u32, 17>> {
-    let count: usize = labelled(words, "periods")?;
+fn listed(mut words: SplitWhitespace<'_>) -> Option<ArrayVec<u32, 17>> {
+    let count = labelled(&mut words, "periods")?;
     let mut periods = ArrayVec::new();
     for word in words.skip(1) {
         periods.try_push(word.parse().ok()?).ok()?;
     }
-    if periods.len() == count {
+    if periods.len() as u64 == count {
         Some(periods)
     } else {
         None
@@ -70,25 +68,24 @@ fn listed(words: &mut SplitWhitespace<'_>) -> Option<ArrayVec<u32, 17>> {
 impl Call {
     fn parse(call: &str) -> Option<Call> {
         let mut words = call.split_whitespace();
-        let parsed = match words.next()? {
-            "read" => Call::Read,
-            "write" => Call::Write {
-                space: labelled(&mut words, "space")?,
-            },
-            "times" => Call::Times {
-                space: labelled(&mut words, "space")?,
-                periods: listed(&mut words)?,
-            },
-            "cheapest" => Call::Choose(Choice::parse(Planner::Cheapest, &mut words)?),
-            "best" => Call::Choose(Choice::parse(Planner::Best, &mut words)?),
-            "list" => Call::List {
+        match words.next()? {
+            "read" => Some(Call::Read),
+            "write" => Some(Call::Write {
+                space: labelled(&mut words, "space")? as usize,
+            }),
+            "times" => Some(Call::Times {
+                space: labelled(&mut words, "space")? as usize,
+                periods: listed(words)?,
+            }),
+            "cheapest" => Choice::parse(Planner::Cheapest, words).map(Call::Choose),
+            "best" => Choice::parse(Planner::Best, words).map(Call::Choose),
+            "list" => Some(Call::List {
                 budget: labelled(&mut words, "budget")?,
-                room: labelled(&mut words, "room")?,
-            },
-            "print" => Call::Print,
-            _ => return None,
-        };
-        Some(parsed)
+                room: labelled(&mut words, "room")? as usize,
+            }),
+            "print" => Some(Call::Print),
+            _ => None,
+        }
     }
 }
 
@@ -97,7 +94,7 @@ impl Call {
 pub(crate) struct Example<'a> {
     pub label: &'a str,
     pub call: Call,
-    pub file: PlanFile,
+    pub file: TestFile,
 }
 
 impl<'a> Example<'a> {
@@ -107,7 +104,7 @@ impl<'a> Example<'a> {
         Some(Example {
             label,
             call: Call::parse(call)?,
-            file: PlanFile::from_words(words.trim())?,
+            file: TestFile::from_words(words.trim())?,
         })
     }
 }

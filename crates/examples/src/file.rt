@@ -1,5 +1,6 @@
 ghost use Rattle.std.specs.Prelude.{◌≤◌, length};
 
+use super::small::SmallPlan;
 use listing::INPUT_SIZE;
 use plan::Task;
 
@@ -13,6 +14,24 @@ pub(crate) enum Version {
     Two = 2,
 }
 
+impl Version {
+    // How many numbers a row has; said here anew, as all that the product is held to.
+    fn fields(self) -> usize
+        ensures { result ≤ 7 }
+    {
+        match self {
+            Version::One => 5,
+            Version::Two => Task::FIELDS,
+        }
+    }
+
+    fn row_size(self) -> usize
+        ensures { result ≤ 28 }
+    {
+        4 * self.fields()
+    }
+}
+
 // A word of a file, as stdin describes it.
 #[derive(Clone, Copy)]
 enum Word<'a> {
@@ -21,55 +40,51 @@ enum Word<'a> {
     Number(u32),
     Byte(u8),
     Name(&'a str),
-    Repeat { width: usize, times: u8 },
+    Rows { version: Version, times: u8 },
     End,
 }
 
 impl<'a> Word<'a> {
     fn parse(word: &'a str) -> Option<Word<'a>> {
         let mut chars = word.chars();
-        let first = chars.next()?;
+        let sign = chars.next()?;
         let rest = chars.as_str();
-        let parsed = match first {
-            '%' => Word::Header {
-                version: Version::One,
-                tasks: rest.parse().ok()?,
-            },
-            '&' => Word::Header {
-                version: Version::Two,
-                tasks: rest.parse().ok()?,
-            },
-            '@' => Word::Seek(rest.parse().ok()?),
-            '.' => Word::Byte(rest.parse().ok()?),
-            '\'' => Word::Name(rest),
-            '*' => Word::Repeat {
-                width: 20,
-                times: rest.parse().ok()?,
-            },
-            '+' => Word::Repeat {
-                width: 28,
-                times: rest.parse().ok()?,
-            },
-            ';' => Word::End,
-            _ => Word::Number(word.parse().ok()?),
+        let version = match sign {
+            '%' | '*' => Version::One,
+            '&' | '+' => Version::Two,
+            '@' => return Some(Word::Seek(rest.parse().ok()?)),
+            '.' => return Some(Word::Byte(rest.parse().ok()?)),
+            '\'' => return Some(Word::Name(rest)),
+            ';' => return Some(Word::End),
+            _ => return Some(Word::Number(word.parse().ok()?)),
         };
-        Some(parsed)
+        let count = rest.parse().ok()?;
+        Some(match sign {
+            '%' | '&' => Word::Header {
+                version,
+                tasks: count,
+            },
+            _ => Word::Rows {
+                version,
+                times: count,
+            },
+        })
     }
 }
 
-// A plan file that is written piece by piece, over zeros; a file that ends past its space is empty.
+// A plan file that is written piece by piece, over zeros: words write over what is there, and past the file's end, which
+// is set apart. It ends where its space does, at the latest.
 #[derive(Drop)]
-pub(crate) struct PlanFile {
+pub(crate) struct TestFile {
     space: [u8; INPUT_SIZE],
     // where the next piece goes
     at: usize,
-    // where the file ends
     end: usize,
 }
 
-impl PlanFile {
-    fn new() -> PlanFile {
-        PlanFile {
+impl TestFile {
+    fn new() -> TestFile {
+        TestFile {
             space: [0; INPUT_SIZE],
             at: 0,
             end: 0,
@@ -77,25 +92,22 @@ impl PlanFile {
     }
 
     // The file that words describe: they change plan P, or plan Q behind $, or describe all of it from a header on.
-    pub(crate) fn from_words(words: &str) -> Option<PlanFile> {
-        let mut file = PlanFile::new();
-        if let Some(changes) = words.strip_prefix('$') {
-            file.write(PLAN_Q)?;
-            file.write(changes)?;
-        } else {
-            if !words.starts_with('%') && !words.starts_with('&') {
-                file.write(PLAN_P)?;
-            }
-            file.write(words)?;
-        }
+    pub(crate) fn from_words(words: &str) -> Option<TestFile> {
+        let (base, changes) = match words.strip_prefix('$') {
+            Some(changes) => (PLAN_Q, changes),
+            None if words.starts_with(['%', '&']) => ("", words),
+            None => (PLAN_P, words),
+        };
+        let mut file = TestFile::new();
+        file.write(base)?;
+        file.write(changes)?;
         Some(file)
     }
 
-    // The file of tasks in a version, with their names A, B and C behind them.
-    pub(crate) fn from_tasks(version: Version, tasks: &[Task]) -> PlanFile
-        requires { length tasks.now ≤ 3 }
-    {
-        let mut file = PlanFile::new();
+    // The file of a plan in a version, with the names A, B and C behind its tasks.
+    pub(crate) fn from_plan(version: Version, plan: &SmallPlan) -> TestFile {
+        let tasks = plan.tasks();
+        let mut file = TestFile::new();
         file.put_header(version, tasks.len() as u8);
         for task in tasks {
             file.put_task(version, *task);
@@ -109,7 +121,7 @@ impl PlanFile {
     pub(crate) fn bytes(&self) -> &[u8]
         ensures { length result.now ≤ INPUT_SIZE }
     {
-        self.space.get(..self.end).unwrap_or(&[])
+        &self.space[..self.end.min(INPUT_SIZE)]
     }
 
     // Writes words from the start on.
@@ -126,51 +138,48 @@ impl PlanFile {
             Word::Header { version, tasks } => self.put_header(version, tasks),
             Word::Seek(at) => self.at = at,
             Word::Number(number) => self.put(&number.to_le_bytes()),
-            Word::Byte(byte) => self.put(&[byte]),
+            Word::Byte(byte) => self.put_byte(byte),
             Word::Name(name) => self.put_name(name.as_bytes()),
-            Word::Repeat { width, times } => {
-                for _ in 0..times {
-                    self.repeat(width);
-                }
-            }
+            Word::Rows { version, times } => self.repeat(version.row_size(), times),
             Word::End => self.end = self.at,
         }
     }
 
+    fn put_byte(&mut self, byte: u8) {
+        if let Some(place) = self.space.get_mut(self.at) {
+            *place = byte;
+        }
+        self.at = self.at.saturating_add(1);
+    }
+
     fn put(&mut self, bytes: &[u8]) {
         for byte in bytes {
-            if let Some(place) = self.space.get_mut(self.at) {
-                *place = *byte;
-            }
-            self.at = self.at.saturating_add(1);
+            self.put_byte(*byte);
         }
     }
 
     // The header of so many tasks; their rows follow it, and their names these.
     fn put_header(&mut self, version: Version, tasks: u8) {
-        let tasks = u32::from(tasks);
-        let row_size = match version {
-            Version::One => 20,
-            Version::Two => 28,
-        };
-        let names = 16 + row_size * tasks;
-        let end = names + 16 * tasks;
-        for number in [version as u32 + 65536 * tasks, 16, names, end] {
+        let count = usize::from(tasks);
+        let names = 16 + version.row_size() * count;
+        self.end = names + 16 * count;
+        for number in [
+            version as u32 + 65536 * u32::from(tasks),
+            16,
+            names as u32,
+            self.end as u32,
+        ] {
             self.put(&number.to_le_bytes());
         }
-        self.end = end as usize;
     }
 
     fn put_task(&mut self, version: Version, task: Task) {
-        let count = match version {
-            Version::One => 5,
-            Version::Two => Task::FIELDS,
-        };
-        for number in &task.row()[..count] {
+        for number in &task.row()[..version.fields()] {
             self.put(&number.to_le_bytes());
         }
     }
 
+    // A name in sixteen bytes.
     fn put_name(&mut self, name: &[u8]) {
         let mut field = [0; 16];
         for (place, byte) in field.iter_mut().zip(name) {
@@ -179,15 +188,12 @@ impl PlanFile {
         self.put(&field);
     }
 
-    // Writes the bytes before, so many, once more.
-    fn repeat(&mut self, width: usize) {
-        for _ in 0..width {
-            let from = self.at.checked_sub(width);
-            let byte = from
-                .and_then(|from| self.space.get(from))
-                .copied()
-                .unwrap_or(0);
-            self.put(&[byte]);
+    // Writes the bytes before, so many, so many times more.
+    fn repeat(&mut self, width: usize, times: u8) {
+        for _ in 0..width.saturating_mul(usize::from(times)) {
+            let from = self.at.wrapping_sub(width);
+            let byte = self.space.get(from).copied().unwrap_or(0);
+            self.put_byte(byte);
         }
     }
 }

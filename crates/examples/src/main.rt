@@ -1,16 +1,17 @@
 #![tactic(auto)]
 
 // Examples and tests that are run, not proved: each line says what was tried and what came out.
-mod operations; // operations.rt: READ, WRITE, TIMES, CHEAPEST and BEST, each called in one place
+mod operations; // operations.rt: CHEAPEST and BEST by a value, and what they leave of a space
 mod file; // file.rt: plan files, from words and from tasks
 mod example; // example.rt: a line of file stdin
-mod show; // show.rt: lists and names as text
+mod show; // show.rt: refusals, numbers and bytes as text
 mod cases; // cases.rt: the examples of file stdin, by READ, NAME, WRITE, TIMES, CHEAPEST, BEST and the listing
+mod small; // small.rt: plans of up to three tasks, and their period assignments
 mod draw; // draw.rt: small plans from a fixed sequence
 mod clock; // clock.rt: TIMES against a clock
-mod assignments; // assignments.rt: all period assignments of a small plan
-mod rounds; // rounds.rt: the rounds of BEST by plain scans over them
-mod planner; // planner.rt: CHEAPEST and BEST against the enumeration, BEST against the plain rounds
+mod enumeration; // enumeration.rt: all period assignments of a small plan
+mod rounds; // rounds.rt: the rounds of CHEAPEST and BEST by plain scans over them
+mod planner; // planner.rt: CHEAPEST and BEST against the plain rounds, and these against the enumeration
 mod many; // many.rt: all of these over many drawn plans
 
 use std::{io, str};

@@ -1,6 +1,6 @@
-use super::assignments::Enumeration;
-use super::draw::{Sequence, SmallPlan};
-use super::file::{PlanFile, Version};
+use super::draw::Sequence;
+use super::enumeration::Enumeration;
+use super::file::{TestFile, Version};
 use super::operations::Planner;
 use super::planner::{Changes, Run};
 use super::{clock, planner};
@@ -19,16 +19,19 @@ struct Counts {
 
 impl Counts {
     // Compares over a plan in a version: TIMES at four period assignments, and CHEAPEST and BEST in four runs.
-    fn compare(&mut self, sequence: &Sequence, version: Version, plan: &Enumeration) {
-        let plan_file = PlanFile::from_tasks(version, plan.tasks());
+    fn compare(&mut self, sequence: &Sequence, version: Version, all: &Enumeration) {
+        let plan = &all.plan;
+        let plan_file = TestFile::from_plan(version, plan);
         let file = plan_file.bytes();
         self.plans = self.plans.saturating_add(1);
-        self.assignments = self.assignments.saturating_add(u64::from(plan.count()));
+        self.assignments = self
+            .assignments
+            .saturating_add(u64::from(plan.assignments()));
         for k in 0..4 {
-            let periods = sequence.draw_periods(k, plan.tasks());
-            let cheapest = Run::draw(plan, Planner::Cheapest, sequence, k);
-            let best = Run::draw(plan, Planner::Best, sequence, k);
-            self.times.compare(file, plan.tasks(), &periods);
+            let periods = sequence.draw_periods(k, plan);
+            let cheapest = Run::draw(all, Planner::Cheapest, sequence, k);
+            let best = Run::draw(all, Planner::Best, sequence, k);
+            self.times.compare(file, plan, &periods);
             self.cheapest.compare(&cheapest, file);
             self.best.compare(&best, file);
         }
@@ -37,22 +40,18 @@ impl Counts {
 
 impl fmt::Display for Counts {
     fn fmt<W: fmt::Write>(&self, f: &mut fmt::Formatter<W>) -> fmt::Result {
-        let plans = self.plans;
-        let assignments = self.assignments;
-        writeln!(
+        let Counts {
+            plans,
+            assignments,
+            times,
+            cheapest,
+            best,
+        } = *self;
+        write!(
             f,
-            "response times by the clock: plans {plans} {}",
-            self.times
-        )?;
-        writeln!(
-            f,
-            "cheapest periods by enumeration: plans {plans} period assignments {assignments} {}",
-            self.cheapest
-        )?;
-        writeln!(
-            f,
-            "best periods by enumeration: plans {plans} {}",
-            self.best
+            "response times by the clock: plans {plans} {times}\n\
+             cheapest periods by enumeration: plans {plans} period assignments {assignments} {cheapest}\n\
+             best periods by enumeration: plans {plans} {best}\n"
         )
     }
 }
@@ -67,20 +66,11 @@ struct Totals {
 
 impl Totals {
     fn compare(&mut self, sequence: &Sequence) {
-        let free = Enumeration::new(SmallPlan::draw(sequence, 0));
-        let blocked = Enumeration::new(SmallPlan::draw(sequence, 3));
+        let free = Enumeration::new(sequence.draw_plan(0));
+        let blocked = Enumeration::new(sequence.draw_plan(3));
         self.free.compare(sequence, Version::One, &free);
         self.blocked.compare(sequence, Version::Two, &blocked);
         self.changes.compare(&free, &blocked);
-    }
-}
-
-impl fmt::Display for Totals {
-    fn fmt<W: fmt::Write>(&self, f: &mut fmt::Formatter<W>) -> fmt::Result {
-        write!(f, "{}", self.free)?;
-        writeln!(f, "the same plans with blocking and jitter, in version 2")?;
-        write!(f, "{}", self.blocked)?;
-        writeln!(f, "optimum with blocking: {}", self.changes)
     }
 }
 
@@ -91,5 +81,12 @@ pub(crate) fn run(rt: &impl Print) -> io::Result<()> {
         totals.compare(&sequence);
         sequence = Sequence::new(sequence.next_seed());
     }
-    print!(rt; "{totals}")
+    let Totals {
+        free,
+        blocked,
+        changes,
+    } = totals;
+    println!(rt;
+        "{free}the same plans with blocking and jitter, in version 2\n{blocked}optimum with blocking: {changes}"
+    )
 }

@@ -3,8 +3,9 @@ use optimizer::{CallError, Conclusion};
 // What CHEAPEST or BEST answers.
 pub(crate) type Outcome = Result<Conclusion, CallError>;
 
-// The operations that choose periods; BEST keeps an incumbent.
-#[derive(Clone, Copy, PartialEq, Eq)]
+// The operations that choose periods; BEST keeps an incumbent. Which one is called is a value, not a type, since a line
+// of stdin names it.
+#[derive(Clone, Copy)]
 pub(crate) enum Planner {
     Cheapest,
     Best,
@@ -23,4 +24,9 @@ impl Planner {
             Planner::Best => optimizer::best_periods(file, budget, periods, work),
         }
     }
+}
+
+// Whether the numbers of a space are all this one.
+pub(crate) fn are_all(space: &[u32], number: u32) -> bool {
+    space.iter().all(|other| *other == number)
 }

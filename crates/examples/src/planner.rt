@@ -1,8 +1,9 @@
-use super::assignments::{ASSIGNMENTS, Assignment, Enumeration};
 use super::clock::{first_missed, own_demand};
 use super::draw::Sequence;
-use super::operations::{Outcome, Planner};
-use super::rounds;
+use super::enumeration::{ASSIGNMENTS, Enumeration};
+use super::operations::{Outcome, Planner, are_all};
+use super::rounds::{End, Search};
+use super::small::{Assignment, SmallPlan};
 use optimizer::{CallError, Conclusion, Stop};
 use plan::Task;
 use std::fmt;
@@ -13,52 +14,55 @@ fn is_infeasible_alone(task: &Task) -> bool {
 }
 
 // The first such task, from 1 on.
-fn first_alone(tasks: &[Task]) -> Option<u32> {
-    (1..=3)
-        .zip(tasks)
-        .find(|(_, task)| is_infeasible_alone(task))
-        .map(|(place, _)| place)
+fn first_alone(plan: &SmallPlan) -> Option<u32> {
+    for place in plan.places() {
+        if is_infeasible_alone(plan.task(*place)) {
+            return Some(place.number());
+        }
+    }
+    None
 }
 
 // 31 at the first task that is infeasible alone, or 32 at the first that misses its deadline at the longest periods;
 // none where all meet theirs.
-fn refusal_of(plan: &Enumeration) -> Option<CallError> {
-    if let Some(place) = first_alone(plan.tasks()) {
+fn refusal_of(plan: &SmallPlan) -> Option<CallError> {
+    if let Some(place) = first_alone(plan) {
         return Some(CallError::InfeasibleAlone(place));
     }
-    let place = first_missed(plan.tasks(), &plan.periods(plan.longest()))?;
+    let place = first_missed(plan, &plan.longest())?;
     Some(CallError::Infeasible(place))
 }
 
 // A run of CHEAPEST or BEST on a plan, with a budget and with room for so many numbers.
 #[derive(Clone, Copy)]
 pub(crate) struct Run<'a> {
-    plan: &'a Enumeration,
+    all: &'a Enumeration,
     planner: Planner,
     budget: u64,
     room: usize,
 }
 
 // The length of a work space with room for every assignment.
-fn enough(plan: &Enumeration) -> usize {
-    (plan.count() as usize).saturating_mul(plan.tasks().len())
+fn enough(plan: &SmallPlan) -> usize {
+    (plan.assignments() as usize).saturating_mul(plan.count)
 }
 
 impl<'a> Run<'a> {
     // Run k of four: with enough budget and room, with little of the one, by number 28 of a sequence, of the other, by
     // number 29, and of both.
     pub(crate) fn draw(
-        plan: &'a Enumeration,
+        all: &'a Enumeration,
         planner: Planner,
         sequence: &Sequence,
         k: usize,
     ) -> Run<'a> {
-        let tasks = plan.tasks().len() as u32;
+        let plan = &all.plan;
+        let tasks = plan.count as u32;
         Run {
-            plan,
+            all,
             planner,
             budget: if k % 2 == 0 {
-                u64::from(plan.count())
+                u64::from(plan.assignments())
             } else {
                 u64::from(sequence.draw(28, 0..=7))
             },
@@ -72,92 +76,78 @@ impl<'a> Run<'a> {
 
     // Whether the budget or the room is below the number of assignments, as at every stop.
     fn is_short(&self) -> bool {
-        self.budget < u64::from(self.plan.count()) || self.room < enough(self.plan)
+        let plan = &self.all.plan;
+        self.budget < u64::from(plan.assignments()) || self.room < enough(plan)
     }
 
-    // Whether periods are an incumbent of that cost: schedulable and within the bounds.
-    fn right_incumbent(&self, cost: u64, periods: &[u32]) -> bool {
-        self.plan.are_within(periods)
-            && first_missed(self.plan.tasks(), periods).is_none()
-            && cost == self.plan.cost_at(periods)
+    // The end of the plain rounds, with an incumbent where the operation keeps one.
+    fn search(&self) -> Option<End> {
+        let plan = &self.all.plan;
+        let incumbent = match self.planner {
+            Planner::Cheapest => None,
+            Planner::Best => Some(plan.longest()),
+        };
+        let room = self.room / plan.count;
+        Search::new(self.all, room, incumbent).run(self.budget)
     }
 
-    // What a stop leaves: an incumbent that costs at least what the cheapest does, or from CHEAPEST nothing.
-    fn right_left(&self, least: u64, incumbent: Option<u64>, periods: &[u32]) -> bool {
-        match (self.planner, incumbent) {
-            (Planner::Cheapest, None) => are_all(periods, 7),
-            (Planner::Best, Some(cost)) => least <= cost && self.right_incumbent(cost, periods),
-            _ => false,
-        }
-    }
-
-    fn right_rounds(&self, rounds: u64) -> bool {
-        rounds <= self.budget && rounds <= u64::from(self.plan.count())
-    }
-
-    // An answer, or a stop with a bound of at most the least cost, where assignment `optimum` is the cheapest one.
-    fn right_conclusion(
-        &self,
-        conclusion: Conclusion,
-        optimum: Assignment,
-        periods: &[u32],
-    ) -> bool {
-        let least = self.plan.cost(optimum);
-        match conclusion {
+    // Whether an end keeps what the enumeration says: it is the optimum, or its bound is at most the least cost, and its
+    // incumbent is schedulable and costs at least that.
+    fn is_sound(&self, end: &End, optimum: &Assignment) -> bool {
+        let plan = &self.all.plan;
+        let least = plan.cost(optimum);
+        match end.conclusion {
             Conclusion::Answered { cost, rounds } => {
-                self.right_rounds(rounds)
-                    && cost == least
-                    && self.plan.periods(optimum).starts_with(periods)
+                cost == least
+                    && end.found == Some(*optimum)
+                    && rounds <= u64::from(plan.assignments())
             }
-            Conclusion::Stopped {
-                stop,
-                incumbent,
-                rounds,
-                bound,
-            } => {
-                self.right_rounds(rounds)
-                    && self.is_short()
-                    && (stop == Stop::Room || rounds == self.budget)
+            Conclusion::Stopped { rounds, bound, .. } => {
+                let is_incumbent = match &end.found {
+                    Some(found) => self.all.is_met(found) && least <= plan.cost(found),
+                    None => true,
+                };
+                is_incumbent
                     && bound <= least
-                    && self.right_left(least, incumbent, periods)
+                    && rounds <= u64::from(plan.assignments())
+                    && self.is_short()
             }
         }
     }
 
-    // Whether all of an answer is that of the enumeration, and BEST's that of the plain rounds. The numbers of both
-    // spaces were 7: a refusal leaves them so.
-    fn is_right(&self, answer: Outcome, periods: &[u32], work: &[u32]) -> bool {
-        match (answer, self.plan.cheapest()) {
-            (Ok(conclusion), Some(optimum)) => {
-                self.right_conclusion(conclusion, optimum, periods)
-                    && are_all(work, 0)
-                    && (self.planner == Planner::Cheapest
-                        || rounds::agrees(answer, self.plan, self.budget, self.room, periods))
-            }
-            (Err(refusal), None) => {
-                refusal_of(self.plan) == Some(refusal) && are_all(periods, 7) && are_all(work, 7)
-            }
-            _ => false,
-        }
+    // Whether a conclusion and the periods with it are those of the plain rounds, and these end as the enumeration says.
+    fn is_right(&self, conclusion: Conclusion, optimum: &Assignment, periods: &[u32]) -> bool {
+        let Some(end) = self.search() else {
+            return false;
+        };
+        let same_periods = match &end.found {
+            Some(found) => periods == self.all.plan.periods(found),
+            None => are_all(periods, 7),
+        };
+        same_periods && conclusion == end.conclusion && self.is_sound(&end, optimum)
     }
 
-    // The answer on the plan's file, with fresh spaces, where it is right.
+    // The answer on the plan's file where it is right. Both spaces are 7, and a refusal leaves them so; what is lent is cut
+    // to its length.
     fn judge(&self, file: &[u8]) -> Option<Outcome> {
         let mut periods = [7; 3];
         let mut work = [7; 3 * ASSIGNMENTS];
-        let periods = &mut periods[..self.plan.tasks().len()];
+        let periods = &mut periods[..self.all.plan.count];
         let work = &mut work[..self.room.min(3 * ASSIGNMENTS)];
         let answer = self.planner.choose(file, self.budget, periods, work);
-        if self.is_right(answer, periods, work) {
-            Some(answer)
-        } else {
-            None
-        }
+        let is_right = match (answer, self.all.cheapest()) {
+            (Ok(conclusion), Some(optimum)) => {
+                are_all(work, 0) && self.is_right(conclusion, &optimum, periods)
+            }
+            (Err(refusal), None) => {
+                refusal_of(&self.all.plan) == Some(refusal)
+                    && are_all(periods, 7)
+                    && are_all(work, 7)
+            }
+            _ => false,
+        };
+        is_right.then_some(answer)
     }
-}
-
-fn are_all(numbers: &[u32], number: u32) -> bool {
-    numbers.iter().all(|other| *other == number)
 }
 
 // How runs ended: with an answer, by rule 31 or 32, at the budget or for room; and those that were not right.
@@ -221,7 +211,7 @@ impl Changes {
             (None, _) => &mut self.neither,
             (Some(free), Some(blocked)) if free == blocked => &mut self.same,
             (Some(_), Some(_)) => &mut self.moved,
-            (Some(_), None) if first_alone(blocked.tasks()).is_some() => &mut self.alone,
+            (Some(_), None) if first_alone(&blocked.plan).is_some() => &mut self.alone,
             (Some(_), None) => &mut self.unschedulable,
         };
         *counter = counter.saturating_add(1);

@@ -1,84 +1,85 @@
-ghost use Rattle.std.specs.Prelude.{◌<◌};
-
-use super::assignments::{ASSIGNMENTS, Assignment, Enumeration};
-use super::operations::Outcome;
+use super::enumeration::{ASSIGNMENTS, Enumeration};
+use super::small::{Assignment, PLACES, Place};
 use arrayvec::ArrayVec;
 use optimizer::{Conclusion, Stop};
 
 // Assignment u with the greatest period of a task at which it is not schedulable.
-fn raised(plan: &Enumeration, u: Assignment, task: usize) -> Assignment
-    requires { task < 3 }
-{
-    (0..plan.width(task))
-        .rev()
-        .map(|digit| u.with(task, digit))
-        .find(|v| !plan.is_met(*v))
-        .unwrap_or(u)
+fn raised(all: &Enumeration, u: Assignment, place: Place) -> Assignment {
+    for period in all.plan.bounds(place).rev() {
+        let v = u.with(place, period);
+        if !all.is_met(&v) {
+            return v;
+        }
+    }
+    u
 }
 
 // The maximal unschedulable assignment above a node.
-fn mua(plan: &Enumeration, node: Assignment) -> Assignment {
+fn mua(all: &Enumeration, node: Assignment) -> Assignment {
     let mut mua = node;
-    for task in 0..3 {
-        mua = raised(plan, mua, task);
+    for place in &PLACES {
+        mua = raised(all, mua, *place);
     }
     mua
 }
 
-// Assignment x with the least period of a task, from number `from` on, at which it is schedulable.
-fn lowered(plan: &Enumeration, x: Assignment, task: usize, from: u32) -> Assignment
-    requires { task < 3 }
-{
-    (from..plan.width(task))
-        .map(|digit| x.with(task, digit))
-        .find(|v| plan.is_met(*v))
-        .unwrap_or(x)
+// Assignment x with the least period of a task, from one on, at which it is schedulable: `raised` the other way round, in
+// its own words, as the rule has it.
+fn lowered(all: &Enumeration, x: Assignment, place: Place, from: u32) -> Assignment {
+    for period in from..=x.period(place) {
+        let v = x.with(place, period);
+        if all.is_met(&v) {
+            return v;
+        }
+    }
+    x
 }
 
 // The lowering of a node.
-fn lowering(plan: &Enumeration, node: Assignment) -> Assignment {
-    let mut lowering = plan.longest();
-    for task in 0..3 {
-        lowering = lowered(plan, lowering, task, node.digit(task));
+fn lowering(all: &Enumeration, node: Assignment) -> Assignment {
+    let mut lowering = all.plan.longest();
+    for place in &PLACES {
+        lowering = lowered(all, lowering, *place, node.period(*place));
     }
     lowering
 }
 
-// How a search ended, with its answer or incumbent.
+// How a search ended, with the answer's or the incumbent's assignment.
 #[derive(Clone, Copy)]
-struct End {
-    conclusion: Conclusion,
-    found: Assignment,
+pub(crate) struct End {
+    pub conclusion: Conclusion,
+    pub found: Option<Assignment>,
 }
 
-// The rounds of BEST by plain scans.
+// The rounds of CHEAPEST or, with an incumbent, of BEST, by plain scans.
 #[derive(Drop)]
-struct Search<'a> {
-    plan: &'a Enumeration,
+pub(crate) struct Search<'a> {
+    all: &'a Enumeration,
     // how many open nodes have room
     room: usize,
     open: ArrayVec<Assignment, ASSIGNMENTS>,
-    incumbent: Assignment,
+    incumbent: Option<Assignment>,
 }
 
 impl<'a> Search<'a> {
-    fn new(plan: &'a Enumeration, room: usize) -> Search<'a> {
+    pub(crate) fn new(
+        all: &'a Enumeration,
+        room: usize,
+        incumbent: Option<Assignment>,
+    ) -> Search<'a> {
         let mut open = ArrayVec::new();
-        open.push(Assignment::default());
+        open.push(all.plan.least());
         Search {
-            plan,
+            all,
             room,
             open,
-            incumbent: plan.longest(),
+            incumbent,
         }
     }
 
     // The least open node.
     fn least(&self) -> Option<Assignment> {
-        self.open
-            .iter()
-            .copied()
-            .min_by_key(|node| self.plan.order(*node))
+        self.all.plan.first_of(&self.open)
     }
 
     fn take_least(&mut self) -> Option<Assignment> {
@@ -89,61 +90,67 @@ impl<'a> Search<'a> {
 
     // Makes the lowering of a node the incumbent where that is less.
     fn improve(&mut self, node: Assignment) {
-        let lowering = lowering(self.plan, node);
-        if self.plan.order(lowering) < self.plan.order(self.incumbent) {
-            self.incumbent = lowering;
+        if let Some(incumbent) = &mut self.incumbent {
+            let plan = &self.all.plan;
+            let lowering = lowering(self.all, node);
+            if plan.order(&lowering) < plan.order(incumbent) {
+                *incumbent = lowering;
+            }
         }
     }
 
     // The child of a node at a task, where there is one that dominates no open node.
-    fn child(&self, node: Assignment, mua: Assignment, task: usize) -> Option<Assignment>
-        requires { task < 3 }
-    {
-        let digit = mua.digit(task);
-        let child = node.with(task, digit.saturating_add(1));
-        let is_dropped = digit == self.plan.longest().digit(task)
-            || self.open.iter().any(|open| open.is_below(&child));
-        if is_dropped { None } else { Some(child) }
+    fn child(&self, node: Assignment, mua: Assignment, place: Place) -> Option<Assignment> {
+        let period = mua.period(place);
+        if period == self.all.plan.task(place).period_max {
+            return None;
+        }
+        let child = node.with(place, period.saturating_add(1));
+        for open in &self.open {
+            if open.is_below(&child) {
+                return None;
+            }
+        }
+        Some(child)
     }
 
-    // Lists the children of a taken node where all open nodes then have room; whether they have.
+    // Lists the children of a taken node; whether all open nodes have room.
     fn expand(&mut self, node: Assignment) -> bool {
-        let mua = mua(self.plan, node);
-        let children = [
-            self.child(node, mua, 0),
-            self.child(node, mua, 1),
-            self.child(node, mua, 2),
-        ];
-        let listed = children.iter().flatten().count();
-        if self.room < self.open.len().saturating_add(listed) {
-            return false;
+        let mua = mua(self.all, node);
+        for place in &PLACES {
+            if let Some(child) = self.child(node, mua, *place) {
+                if self.open.try_push(child).is_err() {
+                    return false;
+                }
+            }
         }
-        self.open.extend(children.into_iter().flatten()).is_ok()
+        self.open.len() <= self.room
     }
 
     fn stopped(&self, stop: Stop, rounds: u64, least: Assignment) -> End {
+        let plan = &self.all.plan;
         End {
             conclusion: Conclusion::Stopped {
                 stop,
-                incumbent: Some(self.plan.cost(self.incumbent)),
+                incumbent: self.incumbent.map(|incumbent| plan.cost(&incumbent)),
                 rounds,
-                bound: self.plan.cost(least),
+                bound: plan.cost(&least),
             },
             found: self.incumbent,
         }
     }
 
     // The rounds up to the budget; none where no node is left, which a schedulable assignment rules out.
-    fn run(mut self, budget: u64) -> Option<End> {
+    pub(crate) fn run(mut self, budget: u64) -> Option<End> {
         for rounds in 1..=budget {
             let node = self.take_least()?;
-            if self.plan.is_met(node) {
+            if self.all.is_met(&node) {
                 return Some(End {
                     conclusion: Conclusion::Answered {
-                        cost: self.plan.cost(node),
+                        cost: self.all.plan.cost(&node),
                         rounds,
                     },
-                    found: node,
+                    found: Some(node),
                 });
             }
             self.improve(node);
@@ -154,18 +161,4 @@ impl<'a> Search<'a> {
         let least = self.least()?;
         Some(self.stopped(Stop::Budget, budget, least))
     }
-}
-
-// Whether BEST, which left these periods, ended as the plain search does; some periods of the plan are schedulable.
-pub(crate) fn agrees(
-    answer: Outcome,
-    plan: &Enumeration,
-    budget: u64,
-    length: usize,
-    periods: &[u32],
-) -> bool {
-    let room = length / plan.tasks().len();
-    Search::new(plan, room).run(budget).is_some_and(|end| {
-        answer == Ok(end.conclusion) && plan.periods(end.found).starts_with(periods)
-    })
 }
