@@ -1,6 +1,5 @@
 -- Laws of the boundary between unschedulable and schedulable assignments, by subject.
 pub mod Maximal  -- maximal unschedulable assignments
-mod Found  -- response times, found or none
 mod OnePeriod  -- deadlines as one period changes
 mod Beginning  -- where a climb may begin
 mod Missing  -- the last period that misses

@@ -9,28 +9,27 @@ use native.Mathlib.Omega.{arith}
 use native.Mathlib.Nat.{sub-zero, mul-le-mul, mul-le-mul_right}
 use lib.ListN.{length, get_or, set, length-set, length-map}
 use lib.Seq.{get_or-set_same, get_or-set_other, set-get_or, ext_get_or}
-use borrow.Author.Tests.{leb-true}
 use Rattle.plan.specs.declared.tasks.Task.{Task}
 use Rattle.plan.specs.Tasks.{max_tasks, max_ticks, max_weight, task_at, AllValid, period_mins, period_maxs, weights}
 use Rattle.plan.proofs.Tests.{bool, le-or-lt, eq-or-ne, both, not-false}
 use Rattle.plan.proofs.Valid.{valid-at}
-use Rattle.response.specs.Analysis.{own_demand, deadline_at, response_time, schedulable}
+use Rattle.response.specs.Analysis.{own_demand, deadline_at, schedulable, max_response}
 use Rattle.response.specs.Assignments.{cost}
 use Rattle.response.specs.Claims.{Covers}
-use Rattle.response.specs.Inner.{max_time, Limits, Begins}
+use Rattle.response.specs.Inner.{Limits, Begins, response_in_time}
 use Rattle.response.proofs.Dominance.{AtMost, at-least-set, set-mono}
 use Rattle.response.proofs.Bounds.{Within, within-true, true-within, within-set, maxs-within}
-use Rattle.response.proofs.Exactness.{own-some, own-begins}
+use Rattle.response.proofs.Exactness.{own-some, own-begins, response-early}
 use Rattle.response.proofs.Ranges.{ranged, weight-at, light, some-within, limits-within, sustainable-within}
 use Rattle.response.proofs.Order.{cost-mono, cost-longer, cost-most}
 use Rattle.response.proofs.Demand.{demand-same}
-use Rattle.response.proofs.Sustainable.{schedulable-all, all-schedulable}
+use Rattle.response.proofs.Sustainable.{meets-covers, schedulable-all, all-schedulable}
 use Rattle.response.proofs.Sustainable.{meets-set as meets-other}
 use Rattle.boundary.specs.Lowering.{lowered_from, lowered, lowering_from, lowering}
 use Rattle.boundary.specs.Misses.{Moved, LastMiss, BeginsAt, SeeksFrom}
 use Rattle.boundary.specs.Inner.{LowersNode, LowersUpTo, Lowers, begin_at}
 use Rattle.boundary.proofs.Beginning.{begins-next}
-use Rattle.boundary.proofs.OnePeriod.{response-early, response-begins}
+use Rattle.boundary.proofs.OnePeriod.{response-begins}
 
 -- a schedulable assignment within the bounds, at least the node
 pub record Meets (ts : List Task) (test : List ℕ → Bool) (node x : List ℕ) : Type 0 where
@@ -124,7 +123,7 @@ pub record Lowering (ts : List Task) (node goal : List ℕ) (i : ℕ) (x : List 
   pub bounded : Within ts node
   pub meets : Meets ts (schedulable ts) node x
   pub upto : i ≤ length ts
-  pub early : own ≤ max_time
+  pub early : own ≤ max_response
   pub begins : i < length ts → Begins (deadline_at ts x i) ts x i (begin_at ts i own)
   pub lowest : Begins (deadline_at ts x (length x - 1)) ts x (length x - 1) start
   pub leads : lowering_from (length node - i) (schedulable ts) node x i ≡ goal
@@ -215,10 +214,10 @@ module _ {ts : List Task} {node : List ℕ} where
       here : i < length g.fixed
       here = omega (arith, i-inside, g.long)
 
-      pub lowering-responds : 1 ≤ response_time ts x i
-      lowering-responds = leb-true 1 (response_time ts x i) (schedulable-all ts x g.meets.met i i-inside)
+      pub lowering-responds : 1 ≤ response_in_time ts x i
+      lowering-responds = (meets-covers ts i (g.valid i i-inside) x (schedulable-all ts x g.meets.met i i-inside)).some
 
-      module _ {r : ℕ} (is : r ≡ response_time ts x i) where
+      module _ {r : ℕ} (is : r ≡ response_in_time ts x i) where
         some : 1 ≤ r
         some = rw is lowering-responds
 

@@ -13,16 +13,17 @@ use borrow.Author.Tests.{lt-leb, le-leb, leb-true}
 use Rattle.plan.specs.declared.tasks.Task.{Task}
 use Rattle.plan.specs.Tasks.{max_ticks, task_at, Valid}
 use Rattle.plan.proofs.Tests.{le-or-lt, eq-or-ne, and_left, and_right}
-use Rattle.response.specs.Analysis.{own_demand, deadline_at, response_up_to, response_time, meets}
+use Rattle.response.specs.Analysis.{own_demand, deadline_at, response_up_to, meets, max_response}
 use Rattle.response.specs.Claims.{Covers}
-use Rattle.response.specs.Inner.{max_time, Limits, Climbs}
+use Rattle.response.specs.Inner.{Limits, Climbs, response_in_time}
 use Rattle.response.proofs.Limits.{limits-set}
-use Rattle.response.proofs.Exactness.{own-some, own-begins}
+use Rattle.response.proofs.Exactness.{own-some, own-begins, response-early}
+use Rattle.response.proofs.Slack.{misses-none}
 use Rattle.response.proofs.Sustainable.{covers-above, covers-meets, schedulable-none}
 use Rattle.boundary.specs.Misses.{Range, Moved, LastMiss, BeginsAt, settles, Responds, Seeks, SeeksBelow, SeeksFrom}
 use Rattle.boundary.specs.Inner.{begin_below}
 use Rattle.boundary.proofs.Beginning.{begins-under}
-use Rattle.boundary.proofs.OnePeriod.{alike, alike-le, alike-releases, alike-more, response-early, deadline-other, own_meets}
+use Rattle.boundary.proofs.OnePeriod.{alike, alike-le, alike-releases, alike-more, deadline-other, own_meets}
 use Rattle.boundary.proofs.OnePeriod.{released-covers, released-begins, shorter-begins, response-begins}
 
 -- changes of period i
@@ -111,6 +112,9 @@ module _ {ts : List Task} {u : List ℕ} {i k low most : ℕ} where
     k-inside : k < length ts
     k-inside = omega (arith, q.inside, q.range.limits.sized)
 
+    valid-k : Valid (task_at ts k)
+    valid-k = q.range.limits.valid k k-inside
+
     works : 1 ≤ own_demand (task_at ts k)
     works = own-some ts q.range.limits.valid k k-inside
 
@@ -145,7 +149,7 @@ module _ {ts : List Task} {u : List ℕ} {i k low most : ℕ} where
       above = g.above;
       upto = g.upto;
       misses = λ l. schedulable-none ts (set u i last) k (k-inside q) (g.misses l);
-      past = λ j a b y c d. let z : j ≡ k = omega arith in rw z (covers-meets ts k (works q) (set u i y) (g.covers y (omega arith) d));
+      past = λ j a b y c d. let z : j ≡ k = omega arith in rw z (covers-meets ts k (valid-k q) (set u i y) (g.covers y (omega arith) d));
     }
 
     pub probing-responds : high ≤ last + 1 → Responds ts u i k most last response
@@ -155,7 +159,7 @@ module _ {ts : List Task} {u : List ℕ} {i k low most : ℕ} where
           let own = own_demand (task_at ts k) in
           let early = leb response (deadline_at ts u j) in
           let light = leb (task_at ts j).blocking own in
-          covers-meets ts j (own-some ts q.range.limits.valid j (omega (arith, k-inside q))) (set u i y)
+          covers-meets ts j (q.range.limits.valid j (omega (arith, k-inside q))) (set u i y)
           (covers-above ts (set u i y) j k b (some-set q y (omega arith) d) (leb-true _ own (and_right early light h))
           (rw (deadline-other ts u i j y (λ z. omega arith)) (leb-true response _ (and_left early light h))) (g.covers y (omega arith) d));
     }
@@ -178,7 +182,7 @@ module _ {ts : List Task} {u : List ℕ} {i k low most : ℕ} where
       }
 
       module _ {r : ℕ} (is : r ≡ response_up_to limit ts (set u' i p) k) where
-        response-is : r ≡ response_time ts (set u i p) k
+        response-is : r ≡ response_in_time ts (set u i p) k
         response-is = rw (g.moved.only p, fixed) at is
 
         pub probing-small : r + (task_at ts i).wcet ≤ max_ticks + max_ticks
@@ -195,7 +199,7 @@ module _ {ts : List Task} {u : List ℕ} {i k low most : ℕ} where
           upto = omega (arith, g.under);
           under = g.under;
           turns = omega (arith, g.turns);
-          misses = λ l. lt-leb 1 (response_time ts (set u i p) k) (omega (arith, response-is));
+          misses = λ l. misses-none ts (set u i p) k (valid-k q) (omega (arith, response-is));
           covers = g.covers;
           begins = λ y c d h. g.begins y (omega arith) d (omega arith);
           between = λ y c d. g.between y (omega arith) d;
@@ -292,7 +296,7 @@ module _ {ts : List Task} {u : List ℕ} {i own low most start : ℕ} (q : Seeks
   own-most : own ≤ most
   own-most = omega (arith, own-early, get_or-set_same u i most 0 q.range.inside)
 
-  pub from-begins : i < length u - 1 → Valid (task_at ts (length u - 1)) × (own ≤ max_time)
+  pub from-begins : i < length u - 1 → Valid (task_at ts (length u - 1)) × (own ≤ max_response)
   from-begins h = (q.range.limits.valid (length u - 1) (omega (arith, q.range.limits.sized)), omega (arith, own-most, q.range.ticks))
 
   lowest-begins : i < length u - 1
@@ -319,7 +323,7 @@ module _ {ts : List Task} {u : List ℕ} {i own low most start : ℕ} (q : Seeks
       }
 
   from-own : (v : ℕ) → v ≤ most → meets ts (set u i v) i ≡ leb own v
-  from-own = own_meets ts u i q.range.inside most i-works q.is q.works
+  from-own = own_meets ts u i q.range.inside most (q.range.limits.valid i i-inside) q.is q.works
 
   pub from_last : {from v : ℕ} → from ≡ max low (own - 1)
       → LastMiss ts u i (suc i) (length u) from most v → LastMiss ts u i i (length u) low most v

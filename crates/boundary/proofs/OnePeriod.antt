@@ -12,11 +12,11 @@ use borrow.Author.Tests.{le-leb, lt-leb}
 use Rattle.std.specs.Int.{div_ceil}
 use Rattle.std.proofs.lemmas.Grind.{div_ceil_times}
 use Rattle.plan.specs.declared.tasks.Task.{Task}
-use Rattle.plan.specs.Tasks.{task_at}
+use Rattle.plan.specs.Tasks.{task_at, Valid}
 use Rattle.plan.proofs.Tests.{le-or-lt, eq-or-ne, not-false}
-use Rattle.response.specs.Analysis.{ceiling, own_demand, demand, deadline, deadline_at, response_up_to, response_time, meets}
+use Rattle.response.specs.Analysis.{ceiling, own_demand, demand, deadline, deadline_at, response_up_to, meets}
 use Rattle.response.specs.Claims.{Covers}
-use Rattle.response.specs.Inner.{Begins}
+use Rattle.response.specs.Inner.{Begins, response_in_time}
 use Rattle.boundary.specs.Misses.{BeginsAt}
 use Rattle.response.proofs.Ceiling.{ceiling-le, le-ceiling, ceiling-some}
 use Rattle.response.proofs.Demand.{demand-monotone, demand-less, demand-more, demand_own, demand-same}
@@ -59,14 +59,6 @@ rounded-up a p h =
 pub alike-is : (t p : ℕ) → 1 ≤ t → 1 ≤ p → div_ceil t (div_ceil t p) ≡ alike t p
 alike-is t p s h = rw (rounded-up t p h) (rounded-up t (ceiling t p) (ceiling-some t p s h))
 
--- a response time does not pass its limit
-pub response-early : (limit : ℕ) (ts : List Task) (xs : List ℕ) (i : ℕ) → 1 ≤ own_demand (task_at ts i)
-    → response_up_to limit ts xs i ≤ limit
-response-early limit ts xs i w = elim (le-or-lt 1 (response_up_to limit ts xs i)) [
-  | inl h ↦ ((response-exact limit ts xs i w).covers h).early
-  | inr h ↦ omega arith
-]
-
 -- a task's demand by its response time is no less
 response-tight : (limit : ℕ) (ts : List Task) (xs : List ℕ) (i : ℕ) → 1 ≤ own_demand (task_at ts i)
     → 1 ≤ response_up_to limit ts xs i → response_up_to limit ts xs i ≤ demand ts xs i (response_up_to limit ts xs i)
@@ -90,7 +82,7 @@ module _ (ts : List Task) (u : List ℕ) (i : ℕ) where
   deadline-other k p n = ap (deadline (task_at ts k)) (get_or-set_other u i k p 0 n)
 
   -- and the response time of a task above
-  pub response-other : (k p : ℕ) → k < i → response_time ts (set u i p) k ≡ response_time ts u k
+  pub response-other : (k p : ℕ) → k < i → response_in_time ts (set u i p) k ≡ response_in_time ts u k
   response-other k p l =
       ap (λ d. response_up_to d ts (set u i p) k) (deadline-other k p (λ e. omega arith))
       ∙ response-same ts (set u i p) u k (λ j h. get_or-set_other u i j p 0 (λ e. omega arith)) (deadline_at ts u k)
@@ -108,27 +100,27 @@ module _ (ts : List Task) (u : List ℕ) (i : ℕ) where
         }
 
     -- so task i meets its deadline from its response time on
-    pub own_meets : (most : ℕ) {r : ℕ} → 1 ≤ own_demand (task_at ts i) → r ≡ response_time ts (set u i most) i → 1 ≤ r
+    pub own_meets : (most : ℕ) {r : ℕ} → Valid (task_at ts i) → r ≡ response_in_time ts (set u i most) i → 1 ≤ r
         → (v : ℕ) → v ≤ most → meets ts (set u i v) i ≡ leb r v
-    own_meets most {r} w is s v h =
-        let x = response-exact (deadline_at ts (set u i most) i) ts (set u i most) i w in
+    own_meets most {r} valid is s v h =
+        let x = response-exact (deadline_at ts (set u i most) i) ts (set u i most) i (omega (arith, valid.wcet_some)) in
         elim (le-or-lt r v) [
           | inl l ↦ rw (le-leb r v l)
-              (covers-meets ts i w (set u i v) (own-covers most v r l (rw (← is) at (x.covers (omega arith)))))
+              (covers-meets ts i valid (set u i v) (own-covers most v r l (rw (← is) at (x.covers (omega arith)))))
           | inr l ↦ rw (lt-leb r v l) (not-false (λ e.
-              let y = meets-covers ts i w (set u i v) e in
-              let t = response_time ts (set u i v) i in
+              let y = meets-covers ts i valid (set u i v) e in
+              let t = response_in_time ts (set u i v) i in
               let early : t ≤ v = omega (arith, get_or-set_same u i v 0 b, y.early) in
               omega (arith, x.least t (own-covers v most t (omega arith) y))))
         ]
 
     -- at that response time, which it keeps
-    pub own_responds : (most : ℕ) {r : ℕ} → 1 ≤ own_demand (task_at ts i) → r ≡ response_time ts (set u i most) i → 1 ≤ r
-        → (v : ℕ) → v ≤ most → r ≤ v → response_time ts (set u i v) i ≡ r
+    pub own_responds : (most : ℕ) {r : ℕ} → 1 ≤ own_demand (task_at ts i) → r ≡ response_in_time ts (set u i most) i → 1 ≤ r
+        → (v : ℕ) → v ≤ most → r ≤ v → response_in_time ts (set u i v) i ≡ r
     own_responds most {r} w is s v h l =
         let x = response-exact (deadline_at ts (set u i most) i) ts (set u i most) i w in
         let y = response-exact (deadline_at ts (set u i v) i) ts (set u i v) i w in
-        let t = response_time ts (set u i v) i in
+        let t = response_in_time ts (set u i v) i in
         let low = y.least r (own-covers most v r l (rw (← is) at (x.covers (omega arith)))) in
         let c = y.covers low.0 in
         let early : t ≤ v = omega (arith, get_or-set_same u i v 0 b, c.early) in
@@ -137,7 +129,7 @@ module _ (ts : List Task) (u : List ℕ) (i : ℕ) where
 
     -- task k below is done by its response time wherever task i is released no more often within it
     module _ (k : ℕ) (below : i < k) (w : 1 ≤ own_demand (task_at ts k)) where
-      pub released-covers : (p : ℕ) {r : ℕ} → r ≡ response_time ts (set u i p) k → 1 ≤ r
+      pub released-covers : (p : ℕ) {r : ℕ} → r ≡ response_in_time ts (set u i p) k → 1 ≤ r
           → (q : ℕ) → ceiling r q ≤ ceiling r p → Covers (deadline_at ts (set u i q) k) ts (set u i q) k r
       released-covers p {r} is s q h =
           let c = rw (← is) at ((response-exact (deadline_at ts (set u i p) k) ts (set u i p) k w).covers (omega arith)) in
@@ -155,7 +147,7 @@ module _ (ts : List Task) (u : List ℕ) (i : ℕ) where
           }
 
       -- and wherever it is released more often, no earlier than one more run of it after that
-      pub released-begins : (p : ℕ) {r : ℕ} → r ≡ response_time ts (set u i p) k → 1 ≤ r
+      pub released-begins : (p : ℕ) {r : ℕ} → r ≡ response_in_time ts (set u i p) k → 1 ≤ r
           → (q : ℕ) → BeginsAt ts u i q k r → ceiling r p < ceiling r q → BeginsAt ts u i q k (r + (task_at ts i).wcet)
       released-begins p {r} is s q n h = record {
         some = omega arith;

@@ -17,10 +17,11 @@ use Rattle.plan.specs.declared.tasks.Task.{Task}
 use Rattle.plan.specs.Tasks.{max_ticks, task_at, period_maxs}
 use Rattle.plan.proofs.Tests.{le-or-lt, eq-or-ne}
 use Rattle.plan.proofs.Valid.{valid-at}
-use Rattle.response.specs.Analysis.{own_demand, deadline_at, response_time, first_meet, schedulable}
-use Rattle.response.specs.Inner.{max_time, some_time, Limits}
+use Rattle.response.specs.Analysis.{own_demand, deadline_at, first_meet, schedulable, max_response}
+use Rattle.response.specs.Inner.{some_time, Limits, response_in_time}
 use Rattle.response.proofs.Limits.{limits-set}
-use Rattle.response.proofs.Exactness.{own-some, own-begins, some-time}
+use Rattle.response.proofs.Exactness.{own-some, own-begins, response-early, some-time}
+use Rattle.response.proofs.Slack.{meets-in-time, meets-responds, misses-none}
 use Rattle.response.proofs.Dominance.{set-at-most}
 use Rattle.response.proofs.Ranges.{max-at}
 use Rattle.response.proofs.Sustainable.{meets-set, first-all, all-schedulable, schedulable-none}
@@ -29,9 +30,9 @@ use Rattle.boundary.specs.Misses.{Moved, LastMiss, BeginsAt, SeeksFrom}
 use Rattle.boundary.specs.Inner.{begin_at, BeginsBelow}
 use Rattle.boundary.specs.Raising.{Unschedulable, Raises, Raised}
 use Rattle.boundary.proofs.Maximal.{raised_is}
-use Rattle.boundary.proofs.Found.{found-none, found-some}
+use Rattle.response.proofs.Found.{found-none, found-some}
 use Rattle.boundary.proofs.Beginning.{begins-next}
-use Rattle.boundary.proofs.OnePeriod.{response-other, response-early, response-begins, own_meets, own_responds}
+use Rattle.boundary.proofs.OnePeriod.{response-other, response-begins, own_meets, own_responds}
 
 -- raising one period
 module _ (ts : List Task) (u : List ℕ) where
@@ -65,13 +66,13 @@ module _ {ts : List Task} {u : List ℕ} {i most begin : ℕ} (h : Raises ts u i
   inside : i < length ts
   inside = omega (arith, h.range.inside, h.range.limits.sized)
 
-  pub raised-most : response_time ts (set u i most) i ≡ 0 → Raised ts u i most (set u i most)
+  pub raised-most : response_in_time ts (set u i most) i ≡ 0 → Raised ts u i most (set u i most)
   raised-most e =
       let r = h.range in
-      let m = lt-leb 1 (response_time ts (set u i most) i) (omega arith) in
+      let m = misses-none ts (set u i most) i (raises-limits.valid i inside) e in
       raised-top ts u i r.order (schedulable-none ts (set u i most) i inside m)
 
-  module _ {own : ℕ} (is : own ≡ response_time ts (set u i most) i) (s : 1 ≤ own) where
+  module _ {own : ℕ} (is : own ≡ response_in_time ts (set u i most) i) (s : 1 ≤ own) where
     pub raises-seeks : {start : ℕ} → start ≡ own_demand (task_at ts (length ts - 1))
         → SeeksFrom ts (set u i most) i own (get_or u i 0) most start
     raises-seeks e = record {
@@ -89,7 +90,7 @@ module _ {ts : List Task} {u : List ℕ} {i most begin : ℕ} (h : Raises ts u i
 
     pub raised-last : {u' : List ℕ} {v : ℕ}
         → LastMiss ts (set u i most) i i (length (set u i most)) (get_or u i 0) most v → Moved ts i (set u i most) u'
-        → Raised ts u i most (set u' i v) × (then_some (leb own v) own ≡ some_time (response_time ts (set u' i v) i))
+        → Raised ts u i most (set u' i v) × (then_some (leb own v) own ≡ some_time (response_in_time ts (set u' i v) i))
     raised-last {u'} {v} l m =
         let once : (y : ℕ) → set (set u i most) i y ≡ set u i y = λ y. set-set u i most y in
         let w = own-some ts h.range.limits.valid i inside in
@@ -111,8 +112,10 @@ module _ {ts : List Task} {u : List ℕ} {i most begin : ℕ} (h : Raises ts u i
           elim (le-or-lt own v) [
             | inl e ↦ rw (le-leb own v e, own_responds ts u i h.range.inside most w is s v l.upto e) (some-time own s)
             | inr e ↦
-                let z = own_meets ts u i h.range.inside most w is s v l.upto ∙ lt-leb own v e in
-                let none : response_time ts (set u i v) i ≡ 0 = omega (arith, leb-false 1 (response_time ts (set u i v) i) z) in
+                let valid = h.range.limits.valid i inside in
+                let z = own_meets ts u i h.range.inside most valid is s v l.upto ∙ lt-leb own v e in
+                let t = response_in_time ts (set u i v) i in
+                let none : t ≡ 0 = omega (arith, leb-false 1 t (sym (meets-in-time ts (set u i v) i valid) ∙ z)) in
                 rw (lt-leb own v e, none) refl
           ],
         )
@@ -120,7 +123,7 @@ module _ {ts : List Task} {u : List ℕ} {i most begin : ℕ} (h : Raises ts u i
 -- the tasks above task i meet their deadlines, the last of them at a time, by which the climb of task i may begin
 pub record Met (ts : List Task) (u : List ℕ) (i r : ℕ) : Type 0 where
   pub all : first_meet ts u i ≡ true
-  pub early : r ≤ max_time
+  pub early : r ≤ max_response
   pub begins : i < length ts → BeginsAt ts u i (task_at ts i).period_max i (begin_at ts i r)
 
 -- raising all in turn: u is what the code has before task i, and the response time of the task above, none where a task
@@ -186,19 +189,19 @@ module _ {ts : List Task} {node : List ℕ} where
           rw d.is (limits-set v i d.value (omega (arith, d.above, v.some i within)) (omega (arith, d.upto, ticks)))
 
       met-next : {u' : List ℕ} → Raised ts u i most u' → first_meet ts u' i ≡ true → {t : ℕ}
-          → (t ≡ response_time ts u' i) × (1 ≤ t) → Met ts u' (suc i) t
+          → (t ≡ response_in_time ts u' i) × (1 ≤ t) → Met ts u' (suc i) t
       met-next {u'} d all {t} q =
           let v = raised-limits d in
           let w = own-some ts v.valid i l in
           let early = response-early (deadline_at ts u' i) ts u' i w in
           record {
-            all = rw (all, ← q.0) (le-leb 1 t q.1);
+            all = rw (all, meets-responds ts u' i (v.valid i l) (omega (arith, q.0, q.1))) refl;
             early = omega (arith, early, q.0, v.most i);
             begins = λ h.
                 let next = v.valid (suc i) h in
                 let x = set u' (suc i) (task_at ts (suc i)).period_max in
                 let some = limits-set v (suc i) (task_at ts (suc i)).period_max (omega (arith, next.min_some, next.ordered)) next.max_most in
-                let is : t ≡ response_time ts x i = q.0 ∙ sym (response-other ts u' (suc i) i _ (omega arith)) in
+                let is : t ≡ response_in_time ts x i = q.0 ∙ sym (response-other ts u' (suc i) i _ (omega arith)) in
                 begins-next v.valid x (λ k c. some.some k (omega (arith, some.sized))) h
                 (omega (arith, response-early (deadline_at ts x i) ts x i w))
                 (response-begins (deadline_at ts x i) ts x i w is q.1);
@@ -229,12 +232,12 @@ module _ {ts : List Task} {node : List ℕ} where
           })
 
       pub raising-met : {u' : List ℕ} {r : ℕ} → response ≡ Some r → Raised ts u i most u' → {response' : Option ℕ}
-          → response' ≡ some_time (response_time ts u' i) → Raising ts node (i + 1) u' response'
+          → response' ≡ some_time (response_in_time ts u' i) → Raising ts node (i + 1) u' response'
       raising-met {u'} {r} e d is =
           let all : first_meet ts u' i ≡ true = rw d.is (first-set ts u i d.value i (omega arith) ∙ (g.met r e).all) in
           raising-on d
           (λ t f. met-next d all (found-some _ (sym is ∙ f)))
-          (λ f. rw (all, lt-leb 1 (response_time ts u' i) (omega (arith, found-none _ (sym is ∙ f)))) refl)
+          (λ f. rw (all, misses-none ts u' i ((raised-limits d).valid i l) (found-none _ (sym is ∙ f))) refl)
 
       pub raising-missed : response ≡ None → Raising ts node (i + 1) (set u i most) response
       raising-missed n =

@@ -2,9 +2,8 @@
 use Rattle.std.specs.Prelude.{◌≡◌, true, cond, List, ℕ, ◌+◌, ◌-◌, ◌≤◌, ◌<◌, eqb, leb, length, get_or}
 use Rattle.plan.specs.declared.tasks.Task.{Task}
 use Rattle.plan.specs.Tasks.{task_at, period_maxs}
-use Rattle.response.specs.Analysis.{own_demand, schedulable}
+use Rattle.response.specs.Analysis.{own_demand, max_response, schedulable}
 use Rattle.response.specs.Assignments.{cost, within_bounds}
-use Rattle.response.specs.Inner.{max_time}
 
 -- a node whose lowering is looked for, among tasks that are schedulable at their longest periods
 pub record LowersNode (ts : List Task) (node : List ℕ) : Type 0 where
@@ -35,4 +34,4 @@ begin_at ts i above = cond (eqb i 0) (own_demand (task_at ts i)) (begin_below (t
 
 pub record BeginsBelow (ts : List Task) (i above : ℕ) : Type 0 where
   pub inside : i < length ts
-  pub early : above ≤ max_time
+  pub early : above ≤ max_response

@@ -2,8 +2,8 @@
 use Rattle.std.specs.Prelude.{◌≡◌, Bool, true, false, ◌&&◌, List, ℕ, suc, ◌-◌, ◌≤◌, ◌<◌, leb, length, get_or, set}
 use Rattle.plan.specs.declared.tasks.Task.{Task}
 use Rattle.plan.specs.Tasks.{max_ticks, task_at}
-use Rattle.response.specs.Analysis.{own_demand, deadline, deadline_at, response_time, meets, schedulable}
-use Rattle.response.specs.Inner.{Limits, Begins}
+use Rattle.response.specs.Analysis.{own_demand, deadline, deadline_at, meets, schedulable}
+use Rattle.response.specs.Inner.{Limits, Begins, response_in_time}
 
 -- where the period of task i may go
 pub record Range (ts : List Task) (u : List ℕ) (i low most : ℕ) : Type 0 where
@@ -66,4 +66,4 @@ pub record SeeksFrom (ts : List Task) (u : List ℕ) (i own low most start : ℕ
   pub range : Range ts u i low most
   pub begins : BeginsAt ts u i most (length u - 1) start
   pub works : 1 ≤ own
-  pub is : own ≡ response_time ts (set u i most) i
+  pub is : own ≡ response_in_time ts (set u i most) i

@@ -1,7 +1,7 @@
 ghost use Rattle.std.specs.Prelude.{◌≡◌, ◌≤◌};
 ghost use Rattle.plan.specs.Tasks.{Valid};
 ghost use Rattle.plan.specs.Promises.{plan_tasks};
-ghost use Rattle.response.specs.Inner.{max_time};
+ghost use Rattle.response.specs.Analysis.{max_response};
 ghost use Rattle.boundary.specs.Inner.{begin_at, begin_below, BeginsBelow};
 
 use plan::{Plan, Task};
@@ -11,7 +11,7 @@ use response::own_demand;
 // that, less that task's blocking, which it does not see, and its own demand later. Where the blocking exceeds its own
 // demand only the latter is known.
 pub fn begin_below(task: &Task, above: &Task, response: u32) -> u32
-    requires { Valid task.now × (response ≤ max_time) }
+    requires { Valid task.now × (response ≤ max_response) }
     ensures { result ≡ begin_below task.now above.now response }
 {
     let own = own_demand(task);

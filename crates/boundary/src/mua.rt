@@ -1,8 +1,8 @@
 ghost use Rattle.std.specs.Prelude.{◌≡◌};
 ghost use Rattle.plan.specs.Tasks.{period_maxs};
 ghost use Rattle.plan.specs.Promises.{plan_tasks};
-ghost use Rattle.response.specs.Analysis.{response_time, schedulable};
-ghost use Rattle.response.specs.Inner.{some_time};
+ghost use Rattle.response.specs.Analysis.{schedulable};
+ghost use Rattle.response.specs.Inner.{some_time, response_in_time};
 ghost use Rattle.boundary.specs.Mua.{mua};
 ghost use Rattle.boundary.specs.Raising.{Unschedulable, Raises, Raised};
 
@@ -16,7 +16,7 @@ use response::Assignment;
 fn raise(plan: &Plan, u: &mut [u32], i: usize, most: u32, begin: u32) -> Option<u32>
     requires { Raises (plan_tasks plan.now) u.old i most begin }
     ensures is { Raised (plan_tasks plan.now) u.old i most u.new }
-    ensures responds { result ≡ some_time (response_time (plan_tasks plan.now) u.new i) }
+    ensures responds { result ≡ some_time (response_in_time (plan_tasks plan.now) u.new i) }
 {
     let least = u[i];
     u[i] = most;

@@ -21,7 +21,6 @@ use Rattle.plan.specs.Promises.{plan_tasks, Loads}
 use Rattle.plan.proofs.Tests.{bool}
 use Rattle.plan.proofs.Accepted.{accepted-none}
 use Rattle.response.specs.Inner.{Limits}
-use Rattle.response.specs.Promises.{times_of}
 use Rattle.response.proofs.Bounds.{Within, within-true}
 use Rattle.response.proofs.Ranges.{limits-within}
 use Rattle.optimizer.specs.declared.errors.CallError.{CallError}
@@ -108,7 +107,7 @@ module _ {s : List ℕ} {plan : Plan} (l : Loads s plan) (R : Task → ℕ → T
     answer-limits = limits-within (plan_tasks plan) plan.valid (rw l.tasks within) plan.few
 
     pub answer-listed : line (cost_word ∷ decimal cost ∷ rounds_word ∷ decimal rounds ∷ [])
-        ++ task_lines s o' (times_of s o') (length o')
+        ++ task_lines s o' (length o')
         ≡ listing_for s x
     unfolding listing_for
     answer-listed =

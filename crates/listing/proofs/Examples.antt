@@ -1,17 +1,14 @@
 -- The published listing of plan P, a refusal and a stop, computed from the bytes of the file.
-use mathlib.Core.Path.{◌≡◌, refl}
+use mathlib.Core.Path.{◌≡◌, refl, ap}
 use mathlib.Core.List.{[], ◌∷◌}
 use Rattle.plan.specs.Words.{value_of, bytes_of, words_of}
 use Rattle.plan.specs.Canonical.{header_bytes, canonical}
 use Rattle.plan.specs.Faults.{first_from}
 use Rattle.plan.specs.Files.{file_fault, tasks_of}
 use Rattle.plan.proofs.Samples.{plan_p}
-use Rattle.response.specs.Analysis.{demand, climb_from, response_up_to, schedulable, response_times}
-use Rattle.boundary.specs.Mua.{mua}
-use Rattle.optimizer.specs.Nodes.{least_of}
-use Rattle.optimizer.specs.Rule.{search_from}
-use Rattle.optimizer.specs.Search.{children}
-use Rattle.optimizer.specs.Promises.{call_fault, infeasible_fault, outcome_of}
+use Rattle.response.specs.Analysis.{demand, climb_from, response_up_to}
+use Rattle.optimizer.specs.Promises.{call_fault, outcome_of}
+use Rattle.optimizer.proofs.Examples.{published as searched}
 use Rattle.listing.specs.Text.{decimal, listing_for, listing_of}
 use Rattle.listing.specs.Promises.{timetable_of}
 
@@ -29,6 +26,9 @@ pub record Published : Type 0 where
       ∷ 114 ∷ 111 ∷ 117 ∷ 110 ∷ 100 ∷ 115 ∷ 32 ∷ 51 ∷ 10 ∷ []
 
 pub published : Published
-unfolding value_of bytes_of words_of header_bytes canonical first_from file_fault tasks_of demand climb_from response_up_to schedulable response_times least_of search_from mua
-    children call_fault infeasible_fault outcome_of decimal listing_for
-published = record { answer = refl; refusal = refl; stop = refl }
+unfolding value_of bytes_of words_of header_bytes canonical first_from file_fault tasks_of demand climb_from response_up_to call_fault outcome_of decimal listing_for
+published = record {
+  answer = ap (listing_for plan_p) searched.answer;
+  refusal = refl;
+  stop = ap (listing_for plan_p) searched.budget3;
+}

@@ -12,13 +12,11 @@ use Rattle.std.specs.Prelude.{unwrap_or}
 use Rattle.plan.specs.declared.record.Plan.{Plan}
 use Rattle.plan.specs.Layout.{name_width}
 use Rattle.plan.specs.Names.{name_field, without_zeros}
-use Rattle.plan.specs.Files.{is_named, name_of}
+use Rattle.plan.specs.Files.{tasks_of, is_named, name_of}
 use Rattle.plan.specs.Promises.{plan_tasks, Loads, Names}
 use Rattle.plan.proofs.Tests.{bool}
 use Rattle.response.specs.Analysis.{response_time}
 use Rattle.response.specs.Inner.{Limits, some_time}
-use Rattle.response.specs.Promises.{times_of}
-use Rattle.response.proofs.Answers.{times-at}
 use Rattle.listing.specs.Text.{line, decimal, task_lines}
 
 without_zeros-le : (bs : List ℕ) → length (without_zeros bs) ≤ length bs
@@ -39,15 +37,8 @@ time-or-zero : (t : ℕ) → unwrap_or (some_time t) 0 ≡ t
 time-or-zero zero = refl
 time-or-zero (suc t) = refl
 
--- a task of a file's plan at given periods
-module _ {s : List ℕ} {plan : Plan} {xs : List ℕ} {i : ℕ} (l : Loads s plan) (m : Limits (plan_tasks plan) xs)
-    (h : i < length xs) where
-  time-is : unwrap_or (some_time (response_time (plan_tasks plan) xs i)) 0 ≡ get_or (times_of s xs) i 0
-  time-is =
-      rw (← l.tasks) (time-or-zero _ ∙ sym (times-at (plan_tasks plan) xs i (omega (arith, m.sized))))
-
-  pub line-more : {name : List ℕ} {time : ℕ} → name ≡ name_of s (i + 1)
-      → time ≡ unwrap_or (some_time (response_time (plan_tasks plan) xs i)) 0
-      → task_lines s xs (times_of s xs) i ++ line (name ∷ decimal (get_or xs i 0) ∷ decimal time ∷ [])
-      ≡ task_lines s xs (times_of s xs) (i + 1)
-  line-more {time = time} n t = let e : time ≡ get_or (times_of s xs) i 0 = t ∙ time-is in rw (add-one, n, e)
+-- the line of a task of a file's plan, at the time that was written
+pub line-more : {s : List ℕ} {plan : Plan} → Loads s plan → (xs : List ℕ) (i : ℕ) {name : List ℕ} {time : ℕ}
+    → name ≡ name_of s (i + 1) → time ≡ unwrap_or (some_time (response_time (plan_tasks plan) xs i)) 0
+    → task_lines s xs i ++ line (name ∷ decimal (get_or xs i 0) ∷ decimal time ∷ []) ≡ task_lines s xs (i + 1)
+line-more l xs i n t = rw (add-one, n, t ∙ time-or-zero _, ← l.tasks) refl

@@ -3,7 +3,7 @@ use Rattle.std.specs.Prelude.{cond, List, [], ◌∷◌, ◌++◌, ℕ, zero, su
 use Rattle.plan.specs.declared.faults.Fault.{Fault}
 use Rattle.plan.specs.Faults.{passed}
 use Rattle.plan.specs.Files.{tasks_of, name_of}
-use Rattle.response.specs.Promises.{times_of}
+use Rattle.response.specs.Analysis.{response_time}
 use Rattle.optimizer.specs.Promises.{Outcome, outcome}
 
 -- "All numbers are decimal.": the digits of a number that has so many at most
@@ -40,19 +40,20 @@ bound_word = 98 ∷ 111 ∷ 117 ∷ 110 ∷ 100 ∷ []
 
 -- "one line a job, in order: name, period, response time": of task i, counted from 0, whose name is that of
 -- number i + 1
-abbrev pub task_line : List ℕ → List ℕ → List ℕ → ℕ → List ℕ
-task_line s xs ts i = line (name_of s (i + 1) ∷ decimal (get_or xs i 0) ∷ decimal (get_or ts i 0) ∷ [])
+abbrev pub task_line : List ℕ → List ℕ → ℕ → List ℕ
+task_line s xs i =
+    line (name_of s (i + 1) ∷ decimal (get_or xs i 0) ∷ decimal (response_time (tasks_of s) xs i) ∷ [])
 
 -- of the first tasks, so many
-abbrev pub task_lines : List ℕ → List ℕ → List ℕ → ℕ → List ℕ
-task_lines s xs ts zero = []
-task_lines s xs ts (suc i) = task_lines s xs ts i ++ task_line s xs ts i
+abbrev pub task_lines : List ℕ → List ℕ → ℕ → List ℕ
+task_lines s xs zero = []
+task_lines s xs (suc i) = task_lines s xs i ++ task_line s xs i
 
 -- "The first line is `cost`, the cost, `rounds`, the rounds."
 abbrev pub answer_text : List ℕ → Outcome → List ℕ
 answer_text s o =
     line (cost_word ∷ decimal o.answer.cost ∷ rounds_word ∷ decimal o.answer.rounds ∷ [])
-    ++ task_lines s o.periods (times_of s o.periods) (length (tasks_of s))
+    ++ task_lines s o.periods (length (tasks_of s))
 
 -- "Refusals print one line: `refused`, number, place"
 abbrev pub refusal_fields : Fault → List (List ℕ)

@@ -2,7 +2,6 @@ ghost use Rattle.std.specs.Prelude.{◌≡◌, [], ◌∷◌, ◌++◌, ◌+◌,
 ghost use Rattle.plan.specs.Tasks.{max_tasks};
 ghost use Rattle.plan.specs.Promises.{plan_tasks};
 ghost use Rattle.response.specs.Inner.{Limits};
-ghost use Rattle.response.specs.Promises.{times_of};
 ghost use Rattle.optimizer.specs.Answers.{stop_fault};
 ghost use Rattle.listing.specs.Text.{decimal, fields, line, refusal_fields, task_lines};
 ghost use Rattle.listing.specs.Text.{cost_word, bound_word, rounds_word};
@@ -53,13 +52,13 @@ fn put_task(text: &mut Listing, name: &[u8], period: u32, time: u32)
     put_number(text, u64::from(time), b'\n');
 }
 
-// The lines of a file's tasks at given periods. As TIMES has it, the time of a task that misses its deadline is 0. Periods
+// The lines of a file's tasks at given periods: an answer's, at which every task responds; 0 would stand for none. Periods
 // are lent, and no `Assignment`: in place of their limits it would be asked that its plan is the file's.
 fn put_tasks(text: &mut Listing, file: &PlanFile, periods: &[u32])
     requires room { length text.old.items + line_size * max_tasks ≤ listing_size }
     requires limits { Limits (plan_tasks file.now.plan) periods.now }
     ensures { let s = file.now.located.file.now in let xs = periods.now in
-        text.new.items ≡ text.old.items ++ task_lines s xs (times_of s xs) (length xs) }
+        text.new.items ≡ text.old.items ++ task_lines s xs (length xs) }
 {
     let assignment = Assignment {
         plan: &file.plan,
@@ -77,7 +76,7 @@ pub fn list_answer(file: &PlanFile, periods: &[u32], cost: u64, rounds: u64) -> 
     ensures { let s = file.now.located.file.now in let xs = periods.now in
         result.items
         ≡ line (cost_word ∷ decimal cost ∷ rounds_word ∷ decimal rounds ∷ [])
-        ++ task_lines s xs (times_of s xs) (length xs) }
+        ++ task_lines s xs (length xs) }
 {
     let mut text = Listing::new();
     put_labelled(&mut text, b"cost", cost, b' ');

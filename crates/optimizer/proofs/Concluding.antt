@@ -15,7 +15,7 @@ use Rattle.plan.specs.Faults.{fault, none, passed}
 use Rattle.plan.specs.Tasks.{max_tasks, no_task, AllValid, period_maxs, weights}
 use Rattle.plan.proofs.Tests.{not-false}
 use Rattle.plan.proofs.Rules.{or-next, or-here, run-all, run-skip, run-task}
-use Rattle.response.specs.Analysis.{schedulable, response_times, first_missed}
+use Rattle.response.specs.Analysis.{schedulable, slack_list, first_missed}
 use Rattle.response.specs.Inner.{Limits}
 use Rattle.response.proofs.Bounds.{maxs-within}
 use Rattle.response.proofs.Ranges.{ranged, limits-within}
@@ -108,15 +108,15 @@ module _ (ts : List Task) where
     passes-alone : (alone ts).number ≡ 0
     passes-alone = ap (λ f. f.number) (sym e)
 
-    pub is_none : {i : ℕ} → suc i ≡ first_missed (response_times ts (period_maxs ts)) → fault 32 (i + 1) ≡ infeasible_fault ts
+    pub is_none : {i : ℕ} → suc i ≡ first_missed (slack_list ts (period_maxs ts)) → fault 32 (i + 1) ≡ infeasible_fault ts
     unfolding infeasible_fault
     is_none {i} q =
         let f : schedulable ts (period_maxs ts) ≡ false =
         not-false (λ t. let z = schedulable-first ts (period_maxs ts) t in omega arith) in
-        let p : i + 1 ≡ first_missed (response_times ts (period_maxs ts)) = omega arith in
+        let p : i + 1 ≡ first_missed (slack_list ts (period_maxs ts)) = omega arith in
         sym (or-next (alone ts) _ passes-alone ∙ rw (f, p))
 
-    pub is-feasible : 0 ≡ first_missed (response_times ts (period_maxs ts)) → none ≡ infeasible_fault ts
+    pub is-feasible : 0 ≡ first_missed (slack_list ts (period_maxs ts)) → none ≡ infeasible_fault ts
     unfolding infeasible_fault
     is-feasible q = sym (or-next (alone ts) _ passes-alone ∙ rw (first-schedulable ts (period_maxs ts) (sym q)))
 

@@ -1,22 +1,33 @@
 -- The published examples of the search, and BEST's incumbents in one of them, computed from the bytes of their files.
-use mathlib.Core.Path.{◌≡◌, refl}
-use mathlib.Core.Bool.{true, false}
+use mathlib.Core.Path.{◌≡◌, refl, ap, ◌∙◌}
+use mathlib.Core.Bool.{Bool, true, false, not}
 use mathlib.Core.List.{List, [], ◌∷◌}
 use Prim.Native.Nat.{ℕ, zero, suc}
+use native.Mathlib.Omega.{arith}
+use lib.ListN.{length}
+use Rattle.std.specs.Prelude.{cond}
+use Rattle.plan.specs.declared.faults.Fault.{Fault}
+use Rattle.plan.specs.declared.tasks.Task.{Task}
 use Rattle.plan.specs.Words.{value_of, bytes_of, words_of}
 use Rattle.plan.specs.Canonical.{header_bytes, canonical}
-use Rattle.plan.specs.Faults.{none, fault, first_from}
-use Rattle.plan.specs.Tasks.{weights}
+use Rattle.plan.specs.Faults.{none, fault, fault_if, passed, or_else, first_from}
+use Rattle.plan.specs.Tasks.{period_maxs, weights}
 use Rattle.plan.specs.Files.{file_fault, tasks_of}
+use Rattle.plan.proofs.Accepted.{accepted-valid}
 use Rattle.plan.proofs.Samples.{variant_p, plan_p}
-use Rattle.response.specs.Analysis.{demand, climb_from, response_up_to, response_times, schedulable}
+use Rattle.response.specs.Analysis.{demand, climb_from, response_up_to, schedulable, slack_list, first_missed}
 use Rattle.response.specs.Assignments.{cost, less}
+use Rattle.response.specs.Inner.{response_in_time}
+use Rattle.response.proofs.Slack.{meets-responds, misses-none}
+use Rattle.response.proofs.Missed.{first_missed-is}
+use Rattle.response.proofs.Early.{in_time, schedulable-early}
 use Rattle.boundary.specs.Mua.{mua}
 use Rattle.boundary.specs.Lowering.{lowering}
 use Rattle.optimizer.specs.Nodes.{least_of}
 use Rattle.optimizer.specs.Rule.{Rule, least, next, search_from}
-use Rattle.optimizer.specs.Search.{children, rule, start}
-use Rattle.optimizer.specs.Promises.{call_fault, infeasible_fault, Outcome, refused, outcome_of, outcome, best_outcome_of}
+use Rattle.optimizer.specs.Search.{children, rule, start, incumbent_rule}
+use Rattle.optimizer.specs.Promises.{call_fault, alone_fault, infeasible_fault, room_of, Outcome, refused, searched, best_searched}
+use Rattle.optimizer.specs.Promises.{outcome_of, outcome, best_outcome_of}
 
 abbrev answered : List ℕ → ℕ → ℕ → Outcome
 answered xs total rounds = record { answer = record { fault = none; cost = total; rounds = rounds; bound = 0 }; periods = xs }
@@ -72,23 +83,100 @@ pub record Kept : Type 0 where
   pub budget3 : kept 3 16000 33 6 3 (2 ∷ 4 ∷ [])
   pub space2 : kept 9 2 34 4 2 (2 ∷ 4 ∷ [])
 
+-- The time test goes up to 2,000,000 for a task that misses its deadline; left past the deadline it computes.
+module _ (s : List ℕ) where
+  abbrev tasks : List Task
+  tasks = tasks_of s
+
+  by-early : {A : Type 0} (f : (List ℕ → Bool) → A) {x : A} → f (in_time tasks) ≡ x → f (schedulable tasks) ≡ x
+  by-early f e = ap f (schedulable-early tasks (accepted-valid s)) ∙ e
+
+  -- what an outcome is made of, by a test
+  abbrev infeasible_by : (List ℕ → Bool) → Fault
+  infeasible_by test =
+      let none = fault_if (not (test (period_maxs tasks))) 32 (first_missed (slack_list tasks (period_maxs tasks))) in
+      or_else (first_from (alone_fault tasks) (length tasks) 0) none
+
+  abbrev called_by : ℕ → ℕ → ((List ℕ → Bool) → Outcome) → (List ℕ → Bool) → Outcome
+  called_by space work x test =
+      let call = call_fault (file_fault s) tasks space work in
+      let infeasible = infeasible_by test in
+      cond (passed call) (cond (passed infeasible) (x test) (refused infeasible)) (refused call)
+
+  abbrev outcome_by : ℕ → ℕ → ℕ → (List ℕ → Bool) → Outcome
+  outcome_by budget space work =
+      called_by space work
+      (λ test. searched (weights tasks) (search_from (rule tasks test) budget (room_of tasks work) 0 tt (start tasks)))
+
+  abbrev best_by : ℕ → ℕ → ℕ → (List ℕ → Bool) → Outcome
+  best_by budget space work = called_by space work (λ test.
+      let e = search_from (incumbent_rule tasks test) budget (room_of tasks work) 0 (period_maxs tasks) (start tasks) in
+      best_searched (weights tasks) e)
+
+  outcome-is : (budget space work : ℕ) {x : Outcome} → outcome_by budget space work (in_time tasks) ≡ x
+      → outcome s budget space work ≡ x
+  unfolding outcome_of infeasible_fault
+  outcome-is budget space work = by-early (outcome_by budget space work)
+
+  best-is : (budget space work : ℕ) {x : Outcome} → best_by budget space work (in_time tasks) ≡ x
+      → best_outcome_of (file_fault s) tasks budget space work ≡ x
+  unfolding best_outcome_of infeasible_fault
+  best-is budget space work = by-early (best_by budget space work)
+
 pub incumbents : Kept
-unfolding value_of bytes_of words_of header_bytes canonical first_from file_fault tasks_of demand climb_from response_up_to response_times schedulable
-    least_of search_from mua children lowering call_fault infeasible_fault best_outcome_of
-incumbents = record { budget0 = refl; budget1 = refl; budget3 = refl; space2 = refl }
+unfolding value_of bytes_of words_of header_bytes canonical first_from file_fault tasks_of demand climb_from response_up_to least_of search_from
+    mua children lowering call_fault
+incumbents = record {
+  budget0 = best-is plan_p 0 2 16000 refl;
+  budget1 = best-is plan_p 1 2 16000 refl;
+  budget3 = best-is plan_p 3 2 16000 refl;
+  space2 = best-is plan_p 9 2 2 refl;
+}
+
+-- 32: radio misses its deadline at the longest periods
+abbrev late : List ℕ
+late = variant_p 1 1000 1
+
+record Late : Type 0 where
+  two : length (tasks late) ≡ 2
+  longest : period_maxs (tasks late) ≡ 1 ∷ 8 ∷ []
+  gauge : response_in_time (tasks late) (1 ∷ 8 ∷ []) 0 ≡ 1
+  radio : response_in_time (tasks late) (1 ∷ 8 ∷ []) 1 ≡ 0
+
+computed : Late
+unfolding value_of bytes_of words_of header_bytes canonical first_from file_fault tasks_of demand climb_from response_up_to
+computed = record { two = refl; longest = refl; gauge = refl; radio = refl }
+
+-- its slack is not computed
+by-place : outcome_by late 100000 2 16000 (in_time (tasks late))
+    ≡ refused (fault 32 (first_missed (slack_list (tasks late) (period_maxs (tasks late)))))
+unfolding value_of bytes_of words_of header_bytes canonical first_from file_fault tasks_of demand climb_from response_up_to call_fault
+by-place = refl
+
+first-late : first_missed (slack_list (tasks late) (period_maxs (tasks late))) ≡ 2
+first-late =
+    let valid = accepted-valid late in
+    let c = computed in
+    rw c.longest
+    (first_missed-is (tasks late) (1 ∷ 8 ∷ []) 1 (record {
+      below = omega (arith, c.two);
+      misses = misses-none (tasks late) (1 ∷ 8 ∷ []) 1 (valid 1 (omega (arith, c.two))) c.radio;
+      above = λ j l. let e : j ≡ 0 = omega arith in
+          rw e (meets-responds (tasks late) (1 ∷ 8 ∷ []) 0 (valid 0 (omega (arith, c.two))) (omega (arith, c.gauge)));
+    }))
 
 pub published : Published
-unfolding value_of bytes_of words_of header_bytes canonical first_from file_fault tasks_of demand climb_from response_up_to response_times schedulable
-    least_of search_from mua children call_fault infeasible_fault outcome_of
+unfolding value_of bytes_of words_of header_bytes canonical first_from file_fault tasks_of demand climb_from response_up_to least_of search_from
+    mua children call_fault
 published = record {
-  answer = refl;
-  tie_met = refl;
+  answer = outcome-is plan_p 100000 2 16000 refl;
+  tie_met = by-early plan_p (λ test. test (3 ∷ 3 ∷ [])) refl;
   tie_cost = refl;
   tie_later = refl;
-  nodes_taken = refl;
-  weights13 = refl;
-  cap3 = refl;
-  budget3 = refl;
-  space2 = refl;
-  gauge1 = refl;
+  nodes_taken = by-early plan_p (λ test. taken_from (rule (tasks plan_p) test) 100000 tt (start (tasks plan_p))) refl;
+  weights13 = outcome-is (variant_p 6 1000 3) 100000 2 16000 refl;
+  cap3 = outcome-is (variant_p 6 3 1) 100000 2 16000 refl;
+  budget3 = outcome-is plan_p 3 2 16000 refl;
+  space2 = outcome-is plan_p 9 2 2 refl;
+  gauge1 = outcome-is late 100000 2 16000 by-place ∙ ap (λ (place : ℕ). refused (fault 32 place)) first-late;
 }

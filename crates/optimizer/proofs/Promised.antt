@@ -140,7 +140,7 @@ module _ (f : Fault) (ts : List Task) (v : AllValid ts) (budget : ℕ) (o o' w w
     | inl z ↦ best_searched_lem (tasks-pass ts z) (rw (eq-eqb _ 0 z) at a)
     | inr z ↦ let b = rw (ne_eqb _ 0 z) at a in
         let never : IsStop (refused (infeasible_fault ts)).answer → ⊥ =
-        λ k. omega (arith, of_two 33 k, of_two 31 (tasks-break ts z).0) in
+        λ k. omega (arith, of_two 33 k, of_two 31 (tasks-break ts v z).0) in
         rw b.answer (
           settles-refused v budget room o' z,
           record { incumbent = λ k. absurd (never k); bounded = λ k. absurd (never k) },

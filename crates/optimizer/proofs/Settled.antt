@@ -18,6 +18,7 @@ use Rattle.response.specs.Analysis.{own_demand, deadline, deadline_at, schedulab
 use Rattle.response.specs.Assignments.{within_bounds}
 use Rattle.response.proofs.Bounds.{within-true, maxs-within, true-within}
 use Rattle.response.proofs.Exactness.{response-past}
+use Rattle.response.proofs.Slack.{misses-none}
 use Rattle.response.proofs.Sustainable.{schedulable-none, schedulable-covers, covers-schedulable}
 use Rattle.response.proofs.Ranges.{max-at, ranged, sustainable-within}
 use Rattle.optimizer.specs.Rule.{Rule, search_from}
@@ -42,10 +43,12 @@ module _ (ts : List Task) where
   abbrev pub alone : Fault
   alone = first_from (alone_fault ts) (length ts) 0
 
-  alone-number : (i : ℕ) → ((alone_fault ts i).number ≡ 0 → ⊥) → i < length ts → ((alone_fault ts i).number ≡ 31) × (longest ≡ false)
-  alone-number i h l = elim (bool (ltb (deadline (task_at ts i) (task_at ts i).period_max) (own_demand (task_at ts i)))) [
+  alone-number : AllValid ts → (i : ℕ) → ((alone_fault ts i).number ≡ 0 → ⊥) → i < length ts
+      → ((alone_fault ts i).number ≡ 31) × (longest ≡ false)
+  alone-number v i h l = elim (bool (ltb (deadline (task_at ts i) (task_at ts i).period_max) (own_demand (task_at ts i)))) [
     | inl t ↦ let short : deadline_at ts (period_maxs ts) i < own_demand (task_at ts i) = rw (max-at ts i) (ltb-true _ _ t) in
-        (rw t, schedulable-none ts (period_maxs ts) i l (rw (response-past _ ts (period_maxs ts) i short)))
+        let late = misses-none ts (period_maxs ts) i (v i l) (response-past _ ts (period_maxs ts) i short) in
+        (rw t, schedulable-none ts (period_maxs ts) i l late)
     | inr t ↦ absurd (h (rw t))
   ]
 
@@ -53,12 +56,12 @@ module _ (ts : List Task) where
   unfolding infeasible_fault
   tasks-pass e = not-false longest (if-passed (not longest) 31 _ (or-second alone (none_fault ts) e))
 
-  pub tasks-break : ((infeasible_fault ts).number ≡ 0 → ⊥)
+  pub tasks-break : AllValid ts → ((infeasible_fault ts).number ≡ 0 → ⊥)
       → (((infeasible_fault ts).number ≡ 31) ⊎ ((infeasible_fault ts).number ≡ 32)) × (longest ≡ false)
   unfolding infeasible_fault
-  tasks-break h = elim (eq-or-ne alone.number 0) [
+  tasks-break v h = elim (eq-or-ne alone.number 0) [
     | inr z ↦ let k = run-some (alone_fault ts) (length ts) 0 z in
-        let a = alone-number k.0 (λ y. z (ap (λ f. f.number) k.1.1 ∙ y)) (omega (arith, k.1.0)) in
+        let a = alone-number v k.0 (λ y. z (ap (λ f. f.number) k.1.1 ∙ y)) (omega (arith, k.1.0)) in
         (inl (ap (λ f. f.number) (or-here alone _ z ∙ k.1.1) ∙ a.0), a.1)
     | inl z ↦ elim (bool longest) [
       | inl t ↦ absurd (h (ap (λ f. f.number) (or-next alone _ z) ∙ rw t))
@@ -83,7 +86,7 @@ module _ {ts : List Task} (v : AllValid ts) (budget room : ℕ) (xs : List ℕ) 
   -- refused by 31 or 32
   pub settles-refused : ((infeasible_fault ts).number ≡ 0 → ⊥) → Settles ts budget room (refused (infeasible_fault ts)).answer xs
   settles-refused h =
-      let b = tasks-break ts h in
+      let b = tasks-break ts v h in
       record {
         numbers = inr (inl b.0);
         answered = λ z. absurd (h z);

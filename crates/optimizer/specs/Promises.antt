@@ -5,7 +5,7 @@ use Rattle.plan.specs.declared.tasks.Task.{Task}
 use Rattle.plan.specs.Faults.{fault, fault_if, passed, or_else, first_fault, first_from}
 use Rattle.plan.specs.Tasks.{task_at, period_maxs, weights}
 use Rattle.plan.specs.Files.{file_fault, tasks_of}
-use Rattle.response.specs.Analysis.{own_demand, deadline, schedulable, response_times, first_missed}
+use Rattle.response.specs.Analysis.{own_demand, deadline, schedulable, slack_list, first_missed}
 use Rattle.response.specs.Assignments.{cost}
 use Rattle.response.specs.Promises.{space_fault}
 use Rattle.optimizer.specs.declared.conclusion.Answer.{Answer}
@@ -31,7 +31,7 @@ alone_fault ts i = fault_if (infeasible_alone (task_at ts i)) 31 (suc i)
 
 -- "32 'none': the point of all high bounds is not on time. Place: its first late job."
 abbrev pub none_fault : List Task → Fault
-none_fault ts = fault_if (not (schedulable ts (period_maxs ts))) 32 (first_missed (response_times ts (period_maxs ts)))
+none_fault ts = fault_if (not (schedulable ts (period_maxs ts))) 32 (first_missed (slack_list ts (period_maxs ts)))
 
 -- "The jobs themselves, after those, 31 before 32"
 unfoldable pub infeasible_fault : List Task → Fault

@@ -11,7 +11,7 @@ use Rattle.plan.specs.declared.tasks.Task.{Task}
 use Rattle.plan.specs.Tasks.{max_ticks, max_blocking, task_at, AllValid}
 use Rattle.plan.proofs.Tests.{le-or-lt}
 use Rattle.response.specs.Analysis.{own_demand, demand, climb_from, response_up_to}
-use Rattle.response.specs.Claims.{Covers, IsResponse}
+use Rattle.response.specs.Claims.{Covers}
 use Rattle.response.specs.Inner.{Begins, some_time}
 use Rattle.response.proofs.Demand.{demand-monotone, demand_own}
 
@@ -21,6 +21,11 @@ own-some ts v i h = omega (arith, (v i h).wcet_some)
 
 pub own-most : (ts : List Task) → AllValid ts → (i : ℕ) → i < length ts → own_demand (task_at ts i) ≤ max_ticks + max_blocking
 own-most ts v i h = omega (arith, (v i h).wcet_most, (v i h).blocking_most)
+
+-- r is the least t up to a limit that covers, and 0 exactly where none does
+pub record IsResponse (limit : ℕ) (ts : List Task) (xs : List ℕ) (i r : ℕ) : Type 0 where
+  pub covers : 1 ≤ r → Covers limit ts xs i r
+  pub least : (t : ℕ) → Covers limit ts xs i t → (1 ≤ r) × (r ≤ t)
 
 module _ (limit : ℕ) (ts : List Task) (xs : List ℕ) (i : ℕ) where
   climb-past : (left t : ℕ) → limit < t → climb_from left limit ts xs i t ≡ 0
@@ -71,6 +76,13 @@ module _ (limit : ℕ) (ts : List Task) (xs : List ℕ) (i : ℕ) where
         covers = climb-covers (suc limit) own;
         least = λ t c. climb-least (suc limit) own t h (omega (arith, demand_own ts xs i t)) c (omega arith);
       }
+
+  -- a response time does not pass its limit
+  pub response-early : 1 ≤ own_demand (task_at ts i) → response_up_to limit ts xs i ≤ limit
+  response-early w = elim (le-or-lt 1 (response_up_to limit ts xs i)) [
+    | inl h ↦ ((response-exact w).covers h).early
+    | inr h ↦ omega arith
+  ]
 
   pub response-past : limit < own_demand (task_at ts i) → response_up_to limit ts xs i ≡ 0
   unfolding response_up_to

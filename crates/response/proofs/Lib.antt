@@ -2,9 +2,13 @@
 pub mod Ceiling  -- rounding up
 pub mod Demand  -- what a task and those above it demand by a time
 pub mod Exactness  -- the climb, and the least time that covers
+pub mod Found  -- a response time that is looked for: there is one, or none
+pub mod Slack  -- slack, and that the climb may be left past the deadline
+mod Load  -- the load of the tasks above, and what it leaves
 pub mod Sustainable  -- meeting deadlines, and raising periods
+pub mod Early  -- the time test as examples compute it
 pub mod Missed  -- the first task that misses its deadline
-pub mod Answers  -- the list of response times
+pub mod Answers  -- the list of slacks
 pub mod Limits  -- what the time test asks, as a period is set
 pub mod Dominance  -- assignments compared period by period, and list equality
 pub mod Order  -- assignments by cost

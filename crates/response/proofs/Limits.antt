@@ -1,14 +1,17 @@
--- A period set within the limits keeps them.
+-- What the limits of the time test are for, and that a period set within them keeps them.
 use mathlib.Core.Path.{◌∙◌}
 use mathlib.Core.Logic.{inl, inr}
 use mathlib.Core.List.{List}
-use Prim.Native.Nat.{ℕ, ◌≤◌}
+use Prim.Native.Nat.{ℕ, ◌≤◌, ◌<◌}
+use native.Mathlib.Omega.{arith}
 use lib.ListN.{length, set, length-set}
 use lib.Seq.{get_or-set_same, get_or-set_other, set_out}
 use Rattle.plan.specs.declared.tasks.Task.{Task}
-use Rattle.plan.specs.Tasks.{max_ticks}
+use Rattle.plan.specs.Tasks.{max_ticks, task_at}
 use Rattle.plan.proofs.Tests.{le-or-lt, eq-or-ne}
-use Rattle.response.specs.Inner.{Limits}
+use Rattle.response.specs.Analysis.{own_demand, max_response}
+use Rattle.response.specs.Inner.{Limits, Climbs}
+use Rattle.response.proofs.Exactness.{own-some, own-begins}
 
 pub limits-set : {ts : List Task} {xs : List ℕ} → Limits ts xs → (i v : ℕ) → 1 ≤ v → v ≤ max_ticks → Limits ts (set xs i v)
 limits-set {ts} {xs} l i v p q =
@@ -26,3 +29,10 @@ limits-set {ts} {xs} l i v p q =
             [ inl e ↦ rw (e, get_or-set_same xs i v 0 b) q | inr e ↦ rw (get_or-set_other xs i k v 0 e) (l.most k) ];
       }
     ]
+
+-- a climb may begin at the task's own demand
+pub climbs-own : {ts : List Task} {xs : List ℕ} → Limits ts xs → {i : ℕ} → i < length xs → {limit : ℕ} → limit ≤ max_response
+    → Climbs limit ts xs i (own_demand (task_at ts i))
+climbs-own {ts} {xs} l {i} h {limit} e =
+    let inside : i < length ts = omega (arith, l.sized) in
+    record { inside = inside; ends = e; begins = own-begins limit ts xs i (own-some ts l.valid i inside) }

@@ -1,4 +1,4 @@
--- The first task that misses its deadline, as the response times tell it: 0 exactly where the periods are schedulable.
+-- The first task that misses its deadline, as the slacks tell it: 0 exactly where the periods are schedulable.
 use mathlib.Core.Path.{◌≡◌, refl}
 use mathlib.Core.Bool.{true, false, true≢false}
 use mathlib.Core.Logic.{inl, inr}
@@ -6,11 +6,11 @@ use mathlib.Core.List.{List}
 use Prim.Native.Nat.{ℕ, zero, suc, ◌+◌, ◌≤◌, ◌<◌}
 use native.Mathlib.Omega.{arith}
 use lib.ListN.{length}
-use borrow.Author.Tests.{leb-true, leb-false, eq-eqb, ne_eqb}
 use Rattle.plan.specs.declared.tasks.Task.{Task}
 use Rattle.plan.specs.Lists.{tabulate}
 use Rattle.plan.proofs.Tests.{bool, eq-or-ne}
-use Rattle.response.specs.Analysis.{response_time, meets, first_meet, schedulable, response_times, first_missed_from, first_missed}
+use Rattle.response.specs.Analysis.{slack, meets, first_meet, schedulable, slack_list, first_missed_from, first_missed}
+use Rattle.response.proofs.Slack.{late-not}
 use Rattle.response.proofs.Sustainable.{first-all, schedulable-all}
 
 -- task k misses its deadline, and every task above it meets its own
@@ -33,34 +33,31 @@ module _ (ts : List Task) (xs : List ℕ) where
   first-miss e = first_of (length ts) (omega arith) e
 
   missed-from : (left i k : ℕ) → i ≤ k → k < left + i → FirstMiss ts xs k
-      → first_missed_from (suc i) (tabulate (response_time ts xs) left i) ≡ suc k
+      → first_missed_from (suc i) (tabulate (slack ts xs) left i) ≡ suc k
   missed-from zero i k p q m = let z : ⊥ = omega arith in absurd z
   missed-from (suc left) i k p q m =
       elim (eq-or-ne i k) [
-        | inl z ↦ let r = leb-false 1 (response_time ts xs k) m.misses in
-            rw z (rw (eq-eqb (response_time ts xs k) 0 (omega arith), first_missed_from))
-        | inr z ↦ let r = leb-true 1 (response_time ts xs i) (m.above i (omega arith)) in
-            rw (ne_eqb (response_time ts xs i) 0 (omega arith), first_missed_from)
+        | inl z ↦ rw z (rw (late-not (slack ts xs k), m.misses, first_missed_from))
+        | inr z ↦ rw (late-not (slack ts xs i), m.above i (omega arith), first_missed_from)
             (missed-from left (suc i) k (omega arith) (omega arith) m)
       ]
 
   missed-none : (left i : ℕ) → ((k : ℕ) → k < left + i → meets ts xs k ≡ true)
-      → first_missed_from (suc i) (tabulate (response_time ts xs) left i) ≡ 0
+      → first_missed_from (suc i) (tabulate (slack ts xs) left i) ≡ 0
   missed-none zero i h = refl
   missed-none (suc left) i h =
-      let r = leb-true 1 (response_time ts xs i) (h i (omega arith)) in
-      rw (ne_eqb (response_time ts xs i) 0 (omega arith), first_missed_from)
+      rw (late-not (slack ts xs i), h i (omega arith), first_missed_from)
       (missed-none left (suc i) (λ k l. h k (omega arith)))
 
-  pub first_missed-is : (k : ℕ) → FirstMiss ts xs k → first_missed (response_times ts xs) ≡ suc k
-  unfolding response_times
+  pub first_missed-is : (k : ℕ) → FirstMiss ts xs k → first_missed (slack_list ts xs) ≡ suc k
+  unfolding slack_list
   first_missed-is k m = missed-from (length ts) 0 k (omega arith) (omega (arith, m.below)) m
 
-  pub schedulable-first : schedulable ts xs ≡ true → first_missed (response_times ts xs) ≡ 0
-  unfolding response_times
+  pub schedulable-first : schedulable ts xs ≡ true → first_missed (slack_list ts xs) ≡ 0
+  unfolding slack_list
   schedulable-first e = missed-none (length ts) 0 (λ k l. schedulable-all ts xs e k (omega arith))
 
-  pub first-schedulable : first_missed (response_times ts xs) ≡ 0 → schedulable ts xs ≡ true
+  pub first-schedulable : first_missed (slack_list ts xs) ≡ 0 → schedulable ts xs ≡ true
   first-schedulable e =
       elim (bool (schedulable ts xs)) [
         | inl f ↦ f

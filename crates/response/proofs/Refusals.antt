@@ -8,19 +8,20 @@ use native.Mathlib.Omega.{arith}
 use lib.Dec.{eqb}
 use lib.ListN.{length, get_or, get_or-eq_default}
 use borrow.Author.Tests.{eqb-true, eq-eqb, ne_eqb, not-false}
+use Rattle.std.specs.Prelude.{ℤ}
 use Rattle.plan.specs.declared.faults.Fault.{Fault}
 use Rattle.plan.specs.declared.tasks.Task.{Task}
 use Rattle.plan.specs.Faults.{fault, first_fault}
 use Rattle.plan.specs.Tasks.{between, no_task, task_at, AllValid}
 use Rattle.plan.proofs.Tests.{le-or-lt, eq-or-ne, between_le}
 use Rattle.plan.proofs.Rules.{or-next, or-here, or-first, or-second, if-passed, run-passed, run_none}
-use Rattle.response.specs.Analysis.{deadline_at, response_times}
+use Rattle.response.specs.Analysis.{slack_list}
 use Rattle.response.specs.Promises.{period_count_fault, space_fault, bound_fault, bounds_fault, periods_fault, times_fault}
 use Rattle.response.specs.Promises.{TimesAnswer, answer_times, Analyses}
 use Rattle.response.proofs.Bounds.{Within}
-use Rattle.response.proofs.Exactness.{own-some, response-exact}
-use Rattle.response.proofs.Ranges.{min-at, max-at, limits-within}
-use Rattle.response.proofs.Answers.{times-length, times-at}
+use Rattle.response.proofs.Slack.{slack-exact}
+use Rattle.response.proofs.Ranges.{min-at, max-at, some-within, limits-within}
+use Rattle.response.proofs.Answers.{slacks-length, slacks-at}
 
 -- rules 21 to 23 of a count of tasks, by the first of them that may be broken
 module _ (ts : List Task) (xs : List ℕ) (space : ℕ) {count : ℕ} (k : count ≡ length ts) where
@@ -79,18 +80,19 @@ passed-periods ts xs space e =
     }
 
 -- what a call whose rules were passed owes its inner calls
-pub ruleset passed_rules = (passed-periods, limits-within, times-length)
+pub ruleset passed_rules = (passed-periods, limits-within, slacks-length)
 
 -- its answer
-pub analysed : {f : Fault} {ts : List Task} {xs o o' : List ℕ} {r : TimesAnswer} → f.number ≡ 0
-    → {g : Fault} → g ≡ periods_fault ts xs (length o) → AllValid ts → g.number ≡ 0 → o' ≡ response_times ts xs → r ≡ answer_times o'
+pub analysed : {f : Fault} {ts : List Task} {xs : List ℕ} {o o' : List ℤ} {r : TimesAnswer} → f.number ≡ 0
+    → {g : Fault} → g ≡ periods_fault ts xs (length o) → AllValid ts → g.number ≡ 0 → o' ≡ slack_list ts xs → r ≡ answer_times o'
     → Analyses f ts xs o o' r
 analysed {f} {ts} {xs} {o} a {g} e v z w is =
+    let within = (passed-periods ts xs (length o) (rw e at z)).within in
     let p : times_fault f ts xs (length o) ≡ g = or-next f _ a ∙ sym e in
     let t = eq-eqb g.number 0 z in
     rw w
     (record {
       answer = rw (p, t, ← w) is;
-      times = rw (p, t);
-      exact = λ _ i l. rw (times-at ts xs i l) (response-exact (deadline_at ts xs i) ts xs i (own-some ts v i l));
+      slacks = rw (p, t);
+      exact = λ _ i l. rw (slacks-at ts xs i l) (slack-exact ts xs i (v i l) (some-within ts v within i l));
     })

@@ -1,5 +1,5 @@
 -- Meeting the deadline: which periods it reads, that raising a period keeps it ("the test is sustainable"), for one task and for all.
-use mathlib.Core.Path.{◌≡◌, refl, ap, ◌∙◌}
+use mathlib.Core.Path.{◌≡◌, refl, sym, ap, ◌∙◌}
 use mathlib.Core.Bool.{true, false}
 use mathlib.Core.Logic.{inl, inr}
 use mathlib.Core.List.{List}
@@ -10,14 +10,15 @@ use lib.ListN.{length, get_or, set}
 use lib.Seq.{get_or-set_other}
 use borrow.Author.Tests.{leb-true, le-leb}
 use Rattle.plan.specs.declared.tasks.Task.{Task}
-use Rattle.plan.specs.Tasks.{task_at, AllValid}
+use Rattle.plan.specs.Tasks.{task_at, Valid, AllValid}
 use Rattle.plan.proofs.Tests.{le-or-lt, eq-or-ne, both, not-false, and_left, and_right, and_both}
-use Rattle.response.specs.Analysis.{own_demand, demand, deadline, deadline_at, climb_from, response_up_to, response_time}
+use Rattle.response.specs.Analysis.{own_demand, demand, deadline_at, climb_from, response_up_to, max_response}
 use Rattle.response.specs.Analysis.{meets, first_meet, schedulable}
 use Rattle.response.specs.Claims.{Covers}
-use Rattle.response.specs.Inner.{Begins}
+use Rattle.response.specs.Inner.{Begins, response_in_time}
 use Rattle.response.proofs.Demand.{demand-antitone, demand-same, demand-above, demand_own, demand-monotone}
-use Rattle.response.proofs.Exactness.{own-some, response-exact}
+use Rattle.response.proofs.Exactness.{IsResponse, response-exact}
+use Rattle.response.proofs.Slack.{meets-in-time}
 
 -- a step of the climb, by what it reads: the limit, the demand, and what comes of climbing on
 turn : ℕ → ℕ → ℕ → ℕ → ℕ
@@ -44,9 +45,7 @@ module _ (ts : List Task) where
 
     pub meets-same : ((k : ℕ) → k ≤ i → get_or xs k 0 ≡ get_or ys k 0) → meets ts xs i ≡ meets ts ys i
     meets-same h =
-        ap (leb 1)
-        (response-same (λ k l. h k (omega arith)) (deadline_at ts xs i)
-        ∙ ap (λ (p : ℕ). response_up_to (deadline (task_at ts i) p) ts ys i) (h i (omega arith)))
+        rw (h i (omega arith), response-same (λ k l. h k (omega arith)) max_response)
 
     pub covers_up : (t : ℕ) → ((k : ℕ) → k < i → 1 ≤ get_or xs k 0) → ((k : ℕ) → k ≤ i → get_or xs k 0 ≤ get_or ys k 0)
         → Covers (deadline_at ts xs i) ts xs i t → Covers (deadline_at ts ys i) ts ys i t
@@ -87,19 +86,21 @@ module _ (ts : List Task) where
           omega (arith, c.covers, b.some);
     }
 
-  -- a task with work to do meets its deadline exactly where some t covers
-  module _ (i : ℕ) (w : 1 ≤ own_demand (task_at ts i)) (xs : List ℕ) where
-    pub meets-covers : meets ts xs i ≡ true → Covers (deadline_at ts xs i) ts xs i (response_time ts xs i)
-    meets-covers m = (response-exact (deadline_at ts xs i) ts xs i w).covers (leb-true 1 (response_time ts xs i) m)
+  -- a valid task meets its deadline exactly where some t covers
+  module _ (i : ℕ) (v : Valid (task_at ts i)) (xs : List ℕ) where
+    timely : IsResponse (deadline_at ts xs i) ts xs i (response_in_time ts xs i)
+    timely = response-exact (deadline_at ts xs i) ts xs i (omega (arith, v.wcet_some))
+
+    pub meets-covers : meets ts xs i ≡ true → Covers (deadline_at ts xs i) ts xs i (response_in_time ts xs i)
+    meets-covers m = timely.covers (leb-true 1 (response_in_time ts xs i) (sym (meets-in-time ts xs i v) ∙ m))
 
     pub covers-meets : {t : ℕ} → Covers (deadline_at ts xs i) ts xs i t → meets ts xs i ≡ true
-    covers-meets {t} c = le-leb 1 (response_time ts xs i) ((response-exact (deadline_at ts xs i) ts xs i w).least t c).0
+    covers-meets {t} c = meets-in-time ts xs i v ∙ le-leb 1 (response_in_time ts xs i) (timely.least t c).0
 
-    pub meets-up : (ys : List ℕ) → ((k : ℕ) → k < i → 1 ≤ get_or xs k 0) → ((k : ℕ) → k ≤ i → get_or xs k 0 ≤ get_or ys k 0)
-        → meets ts xs i ≡ true → meets ts ys i ≡ true
-    meets-up ys p h m =
-        le-leb 1 (response_time ts ys i)
-        ((response-exact (deadline_at ts ys i) ts ys i w).least _ (covers_up xs ys i (response_time ts xs i) p h (meets-covers m))).0
+  pub meets-up : (i : ℕ) → Valid (task_at ts i) → (xs ys : List ℕ)
+      → ((k : ℕ) → k < i → 1 ≤ get_or xs k 0) → ((k : ℕ) → k ≤ i → get_or xs k 0 ≤ get_or ys k 0)
+      → meets ts xs i ≡ true → meets ts ys i ≡ true
+  meets-up i v xs ys p h m = covers-meets i v ys (covers_up xs ys i (response_in_time ts xs i) p h (meets-covers i v xs m))
 
   -- schedulable: every task meets its deadline
   module _ (xs : List ℕ) where
@@ -130,11 +131,11 @@ module _ (ts : List Task) where
   module _ (v : AllValid ts) where
     pub schedulable-covers : (xs : List ℕ) → schedulable ts xs ≡ true
         → (i : ℕ) → i < length ts → (t : ℕ) × Covers (deadline_at ts xs i) ts xs i t
-    schedulable-covers xs e i l = (response_time ts xs i, meets-covers i (own-some ts v i l) xs (schedulable-all xs e i l))
+    schedulable-covers xs e i l = (response_in_time ts xs i, meets-covers i (v i l) xs (schedulable-all xs e i l))
 
     pub covers-schedulable : (xs : List ℕ)
         → ((i : ℕ) → i < length ts → (t : ℕ) × Covers (deadline_at ts xs i) ts xs i t) → schedulable ts xs ≡ true
-    covers-schedulable xs h = all-schedulable xs (λ i l. covers-meets i (own-some ts v i l) xs (h i l).1)
+    covers-schedulable xs h = all-schedulable xs (λ i l. covers-meets i (v i l) xs (h i l).1)
 
     pub sustainable : (xs ys : List ℕ)
         → ((k : ℕ) → k < length ts → 1 ≤ get_or xs k 0)
@@ -142,4 +143,4 @@ module _ (ts : List Task) where
         → schedulable ts xs ≡ true → schedulable ts ys ≡ true
     sustainable xs ys p h e =
         all-schedulable ys
-        (λ i l. meets-up i (own-some ts v i l) xs ys (λ k b. p k (omega arith)) (λ k b. h k (omega arith)) (schedulable-all xs e i l))
+        (λ i l. meets-up i (v i l) xs ys (λ k b. p k (omega arith)) (λ k b. h k (omega arith)) (schedulable-all xs e i l))

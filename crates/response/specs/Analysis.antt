@@ -1,5 +1,6 @@
 -- The exact test of Lehoczky, Sha and Ding. Task i is counted from 0, the highest priority first.
-use Rattle.std.specs.Prelude.{Bool, true, false, ◌&&◌, cond, List, [], ◌∷◌, ℕ, zero, suc, ◌+◌, ◌*◌, ◌/◌, min, eqb, ltb, leb, length, get_or}
+use Rattle.std.specs.Prelude.{Bool, true, false, ◌&&◌, cond, List, [], ◌∷◌, ℕ, zero, suc, ◌+◌, ◌*◌, ◌/◌, min, ltb, leb, length, get_or}
+use Rattle.std.specs.Prelude.{ℤ, pos, neg_ℤ, ◌-ℤ◌, int_lt, int_le}
 use Rattle.plan.specs.declared.tasks.Task.{Task}
 use Rattle.plan.specs.Lists.{tabulate}
 use Rattle.plan.specs.Tasks.{task_at}
@@ -36,8 +37,8 @@ demand ts xs i t = own_demand (task_at ts i) + interference_above ts xs i t
 abbrev pub deadline_at : List Task → List ℕ → ℕ → ℕ
 deadline_at ts xs i = deadline (task_at ts i) (get_or xs i 0)
 
--- "The search for t climbs from the job's own work and stops at the first t that covers its own demand, or past the
--- deadline": up to a limit; 0 past it
+-- "The search for t climbs from the job's own work and stops at the first t that covers its own demand, or past" a limit;
+-- 0 past it
 unfoldable pub climb_from : ℕ → ℕ → List Task → List ℕ → ℕ → ℕ → ℕ
 climb_from zero limit ts xs i t = 0
 climb_from (suc left) limit ts xs i t =
@@ -52,13 +53,29 @@ climb_from (suc left) limit ts xs i t =
 unfoldable pub response_up_to : ℕ → List Task → List ℕ → ℕ → ℕ
 response_up_to limit ts xs i = climb_from (suc limit) limit ts xs i (own_demand (task_at ts i))
 
--- "Its response time is the least such t"; 0 for a task that misses its deadline
-abbrev pub response_time : List Task → List ℕ → ℕ → ℕ
-response_time ts xs i = response_up_to (deadline_at ts xs i) ts xs i
+-- "The response is now the least t up to 2,000,000"
+abbrev pub max_response : ℕ
+max_response = 2000000
 
--- "Job i is on time at x"
+-- "Its response time is the least such t"; 0 where there is none
+abbrev pub response_time : List Task → List ℕ → ℕ → ℕ
+response_time ts xs i = response_up_to max_response ts xs i
+
+-- "If there is none, write −2,000,000, which no real slack reaches."
+abbrev pub no_slack : ℤ
+no_slack = neg_ℤ (pos max_response)
+
+-- "slack ..: deadline minus response time, below zero for a late job"
+abbrev pub slack_of : ℕ → ℕ → ℤ
+slack_of deadline zero = no_slack
+slack_of deadline (suc r) = pos deadline -ℤ pos (suc r)
+
+abbrev pub slack : List Task → List ℕ → ℕ → ℤ
+slack ts xs i = slack_of (deadline_at ts xs i) (response_time ts xs i)
+
+-- "A job is on time exactly when its slack is 0 or more"
 abbrev pub meets : List Task → List ℕ → ℕ → Bool
-meets ts xs i = leb 1 (response_time ts xs i)
+meets ts xs i = int_le (pos 0) (slack ts xs i)
 
 -- "A point is on time if every job is."
 abbrev pub first_meet : List Task → List ℕ → ℕ → Bool
@@ -68,18 +85,18 @@ first_meet ts xs (suc i) = first_meet ts xs i && meets ts xs i
 unfoldable pub schedulable : List Task → List ℕ → Bool
 schedulable ts xs = first_meet ts xs (length ts)
 
--- "each job's response time, 0 for a late job"
-unfoldable pub response_times : List Task → List ℕ → List ℕ
-response_times ts xs = tabulate (response_time ts xs) (length ts) 0
+-- "TIMES shall write slack, in signed 32-bit numbers"
+unfoldable pub slack_list : List Task → List ℕ → List ℤ
+slack_list ts xs = tabulate (slack ts xs) (length ts) 0
 
 -- "the count of late jobs and the first of them (0 if none)", counted from 1
-abbrev pub missed_count : List ℕ → ℕ
+abbrev pub missed_count : List ℤ → ℕ
 missed_count [] = 0
-missed_count (r ∷ rs) = cond (eqb r 0) 1 0 + missed_count rs
+missed_count (s ∷ ss) = cond (int_lt s (pos 0)) 1 0 + missed_count ss
 
-abbrev pub first_missed_from : ℕ → List ℕ → ℕ
+abbrev pub first_missed_from : ℕ → List ℤ → ℕ
 first_missed_from task [] = 0
-first_missed_from task (r ∷ rs) = elim (eqb r 0) [ true ↦ task | false ↦ first_missed_from (suc task) rs ]
+first_missed_from task (s ∷ ss) = elim (int_lt s (pos 0)) [ true ↦ task | false ↦ first_missed_from (suc task) ss ]
 
-abbrev pub first_missed : List ℕ → ℕ
-first_missed rs = first_missed_from 1 rs
+abbrev pub first_missed : List ℤ → ℕ
+first_missed ss = first_missed_from 1 ss

@@ -1,9 +1,9 @@
 -- Demand 2, of the definitions: "a job's time is the least whole number of ticks t, from 1 to the smaller of its period
 -- and its cap, covering its own work plus, for each job above it, that job's work times (t over its period, rounded
--- up)."
-use Rattle.std.specs.Prelude.{ℕ, ◌≤◌, List}
+-- up)"; and what a slack says of it.
+use Rattle.std.specs.Prelude.{◌≡◌, ℕ, ◌≤◌, List, ℤ, pos, ◌-ℤ◌, ◌≤ℤ◌, ◌<ℤ◌}
 use Rattle.plan.specs.declared.tasks.Task.{Task}
-use Rattle.response.specs.Analysis.{demand, deadline_at}
+use Rattle.response.specs.Analysis.{demand, deadline_at, max_response, no_slack}
 
 -- t, from 1 to a limit, covers task i's demand
 pub record Covers (limit : ℕ) (ts : List Task) (xs : List ℕ) (i t : ℕ) : Type 0 where
@@ -11,11 +11,26 @@ pub record Covers (limit : ℕ) (ts : List Task) (xs : List ℕ) (i t : ℕ) : T
   pub early : t ≤ limit
   pub covers : demand ts xs i t ≤ t
 
--- r is the least t that covers, and 0 exactly where none does: "A job is late exactly where no such t is."
-pub record IsResponse (limit : ℕ) (ts : List Task) (xs : List ℕ) (i r : ℕ) : Type 0 where
-  pub covers : 1 ≤ r → Covers limit ts xs i r
-  pub least : (t : ℕ) → Covers limit ts xs i t → (1 ≤ r) × (r ≤ t)
+-- no t does
+abbrev pub NoneCovers : ℕ → List Task → List ℕ → ℕ → Type 0
+NoneCovers limit ts xs i = (t : ℕ) → Covers limit ts xs i t → ⊥
 
--- up to the deadline
-abbrev pub IsResponseTime : List Task → List ℕ → ℕ → ℕ → Type 0
-IsResponseTime ts xs i r = IsResponse (deadline_at ts xs i) ts xs i r
+-- some t does, and s is task i's deadline minus the least
+pub record SlackUpTo (limit : ℕ) (ts : List Task) (xs : List ℕ) (i : ℕ) (s : ℤ) : Type 0 where
+  pub response : ℕ
+  pub covers : Covers limit ts xs i response
+  pub least : (t : ℕ) → Covers limit ts xs i t → response ≤ t
+  pub is : s ≡ pos (deadline_at ts xs i) -ℤ pos response
+
+-- s is task i's slack
+pub record IsSlack (ts : List Task) (xs : List ℕ) (i : ℕ) (s : ℤ) : Type 0 where
+  -- "A job is on time exactly when its slack is 0 or more": then some t up to the deadline covers, and only then
+  pub met : pos 0 ≤ℤ s → SlackUpTo (deadline_at ts xs i) ts xs i s
+  pub on_time : (t : ℕ) → Covers (deadline_at ts xs i) ts xs i t → pos 0 ≤ℤ s
+  -- "below zero for a late job. The response is now the least t up to 2,000,000, not only up to the deadline."
+  pub late : s <ℤ pos 0 → no_slack <ℤ s
+      → SlackUpTo max_response ts xs i s × NoneCovers (deadline_at ts xs i) ts xs i
+  -- "If there is none, write −2,000,000, which no real slack reaches."
+  pub none : s ≡ no_slack → NoneCovers max_response ts xs i
+  pub is_none : NoneCovers max_response ts xs i → s ≡ no_slack
+  pub least : no_slack ≤ℤ s

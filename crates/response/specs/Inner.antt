@@ -1,12 +1,14 @@
 -- What the inner functions ask and promise, for their callers' proofs. A reader of the public calls needs none of it.
-use Rattle.std.specs.Prelude.{◌≡◌, List, ℕ, zero, suc, ◌≤◌, ◌<◌, length, get_or, Option, Some, None}
+use Rattle.std.specs.Prelude.{◌≡◌, List, ℕ, zero, suc, ◌+◌, ◌*◌, ◌/◌, ◌≤◌, ◌<◌, length, get_or, Option, Some, None}
 use Rattle.plan.specs.declared.tasks.Task.{Task}
-use Rattle.plan.specs.Tasks.{max_tasks, max_ticks, Valid, AllValid}
+use Rattle.plan.specs.Tasks.{max_tasks, max_ticks, task_at, Valid, AllValid}
+use Rattle.response.specs.Analysis.{deadline_at, max_response, response_up_to}
 use Rattle.response.specs.Claims.{Covers}
 
--- the largest time that a climb tries: no deadline is later
-abbrev pub max_time : ℕ
-max_time = 1000000
+-- the response time of a task that meets its deadline, 0 for one that misses it: whether it does is known once the
+-- deadline is passed
+abbrev pub response_in_time : List Task → List ℕ → ℕ → ℕ
+response_in_time ts xs i = response_up_to (deadline_at ts xs i) ts xs i
 
 -- what the time test asks: valid tasks, and as many periods, none of them 0, so that no sum and no product wraps
 pub record Limits (ts : List Task) (xs : List ℕ) : Type 0 where
@@ -21,7 +23,7 @@ pub record Interferes (task : Task) (period t : ℕ) : Type 0 where
   pub valid : Valid task
   pub some : 1 ≤ period
   pub most : period ≤ max_ticks
-  pub by : t ≤ max_time
+  pub by : t ≤ max_response
 
 -- where a climb up to a limit may begin: at a time that none that covers task i's demand undercuts
 pub record Begins (limit : ℕ) (ts : List Task) (xs : List ℕ) (i t : ℕ) : Type 0 where
@@ -31,8 +33,25 @@ pub record Begins (limit : ℕ) (ts : List Task) (xs : List ℕ) (i t : ℕ) : T
 -- a climb of task i from a start
 pub record Climbs (limit : ℕ) (ts : List Task) (xs : List ℕ) (i start : ℕ) : Type 0 where
   pub inside : i < length ts
-  pub ends : limit ≤ max_time
+  pub ends : limit ≤ max_response
   pub begins : Begins limit ts xs i start
+
+-- a task's share of the processor, its wcet over its period, in parts of the whole and rounded down
+abbrev pub whole : ℕ
+whole = 4294967296
+
+abbrev pub share : Task → ℕ → ℕ
+share task period = task.wcet * whole / period
+
+-- and the load of the tasks above task i
+abbrev pub load_above : List Task → List ℕ → ℕ → ℕ
+load_above ts xs zero = 0
+load_above ts xs (suc j) = load_above ts xs j + share (task_at ts j) (get_or xs j 0)
+
+-- where a climb up to a limit may begin under a load: no time by which what it leaves holds the own demand comes before
+pub record BeginsUnder (own load limit t : ℕ) : Type 0 where
+  pub some : 1 ≤ t
+  pub below : (s : ℕ) → s ≤ limit → own * whole + load * s ≤ s * whole → t ≤ s
 
 -- a response time that is 0 where there is none, and a task, counted from 1, that is 0 where there is none
 abbrev pub some_time : ℕ → Option ℕ

@@ -1,5 +1,5 @@
 -- What TIMES promises, of any bytes, periods and space.
-use Rattle.std.specs.Prelude.{◌≡◌, true, not, cond, List, [], ◌∷◌, ℕ, suc, ◌<◌, eqb, length, get_or, Result, Ok, Err, Option, Some, None}
+use Rattle.std.specs.Prelude.{◌≡◌, true, not, cond, List, [], ◌∷◌, ℕ, suc, ◌<◌, eqb, length, get_or, ℤ, pos, Result, Ok, Err, Option, Some, None}
 use Rattle.plan.specs.declared.faults.Fault.{Fault}
 use Rattle.plan.specs.declared.tasks.Task.{Task}
 use Rattle.plan.specs.Faults.{none, fault_if, passed, or_else, first_fault, first_from}
@@ -8,8 +8,8 @@ use Rattle.plan.specs.Files.{tasks_of}
 use Rattle.response.specs.declared.times.Times.{Times}
 use Rattle.response.specs.declared.errors.TimesError.{TimesError}
 use Rattle.response.specs.Errors.{times_error_fault}
-use Rattle.response.specs.Analysis.{response_times, missed_count, first_missed}
-use Rattle.response.specs.Claims.{IsResponseTime}
+use Rattle.response.specs.Analysis.{slack_list, missed_count, first_missed}
+use Rattle.response.specs.Claims.{IsSlack}
 
 -- "21: point not n long (TIMES). Place 0."
 abbrev pub period_count_fault : List Task → List ℕ → Fault
@@ -35,9 +35,9 @@ periods_fault ts xs space = first_fault (period_count_fault ts xs ∷ space_faul
 abbrev pub times_fault : Fault → List Task → List ℕ → ℕ → Fault
 times_fault f ts xs space = or_else f (periods_fault ts xs space)
 
--- the response times of a file's tasks
-abbrev pub times_of : List ℕ → List ℕ → List ℕ
-times_of s xs = response_times (tasks_of s) xs
+-- the slacks of a file's tasks
+abbrev pub slacks_of : List ℕ → List ℕ → List ℤ
+slacks_of s xs = slack_list (tasks_of s) xs
 
 -- TIMES's answer: the refusal, how many tasks miss their deadlines, and the first of them, counted from 1, or 0
 pub record TimesAnswer : Type 0 where
@@ -49,8 +49,8 @@ pub record TimesAnswer : Type 0 where
 abbrev pub refused_times : Fault → TimesAnswer
 refused_times f = record { fault = f; missed = 0; first = 0 }
 
-abbrev pub answer_times : List ℕ → TimesAnswer
-answer_times rs = record { fault = none; missed = missed_count rs; first = first_missed rs }
+abbrev pub answer_times : List ℤ → TimesAnswer
+answer_times ss = record { fault = none; missed = missed_count ss; first = first_missed ss }
 
 -- what a call returns, as that
 abbrev pub number_or_none : Option ℕ → ℕ
@@ -61,12 +61,11 @@ abbrev pub times_answer : Result Times TimesError → TimesAnswer
 times_answer (Ok t) = record { fault = none; missed = t.missed; first = number_or_none t.first }
 times_answer (Err e) = refused_times (times_error_fault e)
 
--- TIMES, of a file's fault and tasks: "It writes each job's response time, 0 for a late job"; a refusal leaves the
--- space o as it was
-pub record Analyses (f : Fault) (ts : List Task) (xs o o' : List ℕ) (r : TimesAnswer) : Type 0 where
+-- TIMES, of a file's fault and tasks: "TIMES shall write slack"; a refusal leaves the space o as it was
+pub record Analyses (f : Fault) (ts : List Task) (xs : List ℕ) (o o' : List ℤ) (r : TimesAnswer) : Type 0 where
   pub answer : let g = times_fault f ts xs (length o) in
-      r ≡ cond (passed g) (answer_times (response_times ts xs)) (refused_times g)
-  pub times : o' ≡ cond (passed (times_fault f ts xs (length o))) (response_times ts xs) o
+      r ≡ cond (passed g) (answer_times (slack_list ts xs)) (refused_times g)
+  pub slacks : o' ≡ cond (passed (times_fault f ts xs (length o))) (slack_list ts xs) o
   -- demand 2, of each number written
   pub exact : passed (times_fault f ts xs (length o)) ≡ true → (i : ℕ) → i < length ts
-      → IsResponseTime ts xs i (get_or o' i 0)
+      → IsSlack ts xs i (get_or o' i (pos 0))

@@ -1,7 +1,13 @@
 ghost use Rattle.response.specs.Inner.{Limits};
 
+use super::shares::begin_under;
 use super::tasks::{deadline, interference, own_demand};
 use plan::Plan;
+
+// The longest response time that is looked for; and the slack of a task that has none.
+const MAX_RESPONSE: u32 = 2_000_000;
+
+const NO_SLACK: i32 = -2_000_000;
 
 // A plan's tasks at given periods.
 #[derive(Clone, Copy)]
@@ -14,9 +20,9 @@ pub struct Assignment<'a> {
 impl<'a> Assignment<'a> {
     ghost use Rattle.std.specs.Prelude.{◌≡◌, ◌≤◌, ◌<◌, length, IfSome};
     ghost use Rattle.plan.specs.Promises.{plan_tasks};
-    ghost use Rattle.response.specs.Analysis.{demand, response_up_to, response_time, deadline_at, meets, schedulable};
-    ghost use Rattle.response.specs.Analysis.{response_times, first_missed};
-    ghost use Rattle.response.specs.Inner.{max_time, Climbs, some_time, some_task};
+    ghost use Rattle.response.specs.Analysis.{demand, response_up_to, max_response, response_time, deadline_at};
+    ghost use Rattle.response.specs.Analysis.{slack, meets, schedulable, slack_list, first_missed};
+    ghost use Rattle.response.specs.Inner.{Climbs, response_in_time, load_above, some_time, some_task};
 
     // The deadline of task i.
     pub fn deadline(&self, i: usize) -> u32
@@ -28,7 +34,7 @@ impl<'a> Assignment<'a> {
 
     // What task i and the tasks above it demand by t.
     fn demand(&self, i: usize, t: u32) -> u64
-        requires { (i < length self.now.periods.now) × (t ≤ max_time) }
+        requires { (i < length self.now.periods.now) × (t ≤ max_response) }
         ensures { result ≡ demand (plan_tasks self.now.plan.now) self.now.periods.now i t }
     {
         let tasks = self.plan.tasks.as_slice();
@@ -62,10 +68,32 @@ impl<'a> Assignment<'a> {
         }
     }
 
-    // The response time of task i, none where it misses its deadline.
+    // The response time of task i.
     pub fn response_time(&self, i: usize) -> Option<u32>
         requires { i < length self.now.periods.now }
         ensures { result ≡ some_time (response_time (plan_tasks self.now.plan.now) self.now.periods.now i) }
+    {
+        let start = own_demand(&self.plan.tasks[i]);
+        self.response_from(i, MAX_RESPONSE, start)
+    }
+
+    // The slack of task i under the load of the tasks above: how much its response time leaves of its deadline.
+    pub fn slack(&self, i: usize, load: u64) -> i32
+        requires { (i < length self.now.periods.now)
+            × (load ≡ load_above (plan_tasks self.now.plan.now) self.now.periods.now i) }
+        ensures { result ≡ slack (plan_tasks self.now.plan.now) self.now.periods.now i }
+    {
+        let start = begin_under(own_demand(&self.plan.tasks[i]), load, MAX_RESPONSE);
+        match self.response_from(i, MAX_RESPONSE, start) {
+            Some(response) => self.deadline(i) as i32 - response as i32,
+            None => NO_SLACK,
+        }
+    }
+
+    // Its response time where it meets its deadline: the climb is left past that.
+    pub fn response_in_time(&self, i: usize) -> Option<u32>
+        requires { i < length self.now.periods.now }
+        ensures { result ≡ some_time (response_in_time (plan_tasks self.now.plan.now) self.now.periods.now i) }
     {
         let start = own_demand(&self.plan.tasks[i]);
         self.response_from(i, self.deadline(i), start)
@@ -76,7 +104,7 @@ impl<'a> Assignment<'a> {
         requires { i < length self.now.periods.now }
         ensures { result ≡ meets (plan_tasks self.now.plan.now) self.now.periods.now i }
     {
-        self.response_time(i).is_some()
+        self.response_in_time(i).is_some()
     }
 
     // Whether every task meets its deadline. The lowest is tried first: it is mostly the one that misses.
@@ -91,7 +119,7 @@ impl<'a> Assignment<'a> {
     // The first task that misses its deadline, counted from 0.
     pub fn first_unschedulable(&self) -> Option<usize>
         ensures first { some_task result
-            ≡ first_missed (response_times (plan_tasks self.now.plan.now) self.now.periods.now) }
+            ≡ first_missed (slack_list (plan_tasks self.now.plan.now) self.now.periods.now) }
         ensures within { IfSome result (λ i. i < length self.now.periods.now) }
     {
         (0..self.periods.len()).find(|&i| !self.meets_deadline(i))

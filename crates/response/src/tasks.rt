@@ -1,7 +1,7 @@
 ghost use Rattle.std.specs.Prelude.{◌≡◌, ◌*◌, ◌≤◌};
 ghost use Rattle.plan.specs.Tasks.{max_ticks, Valid};
-ghost use Rattle.response.specs.Analysis.{own_demand, interference, deadline};
-ghost use Rattle.response.specs.Inner.{max_time, Interferes};
+ghost use Rattle.response.specs.Analysis.{own_demand, interference, deadline, max_response};
+ghost use Rattle.response.specs.Inner.{Interferes};
 
 use plan::Task;
 
@@ -24,7 +24,7 @@ pub fn own_demand(task: &Task) -> u32
 pub fn interference(task: &Task, period: u32, t: u32) -> u64
     requires { Interferes task.now period t }
     ensures is { result ≡ interference task.now period t }
-    ensures few { result ≤ max_ticks * max_time }
+    ensures few { result ≤ max_ticks * max_response }
 {
     // `t.div_ceil(period)` makes the climb slower by a tenth.
     u64::from(task.wcet) * u64::from((t + period - 1) / period)

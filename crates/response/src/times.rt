@@ -3,12 +3,13 @@ ghost use Rattle.plan.specs.Faults.{none};
 ghost use Rattle.plan.specs.Tasks.{max_tasks};
 ghost use Rattle.plan.specs.Files.{file_fault, tasks_of};
 ghost use Rattle.plan.specs.Promises.{plan_tasks};
-ghost use Rattle.response.specs.Analysis.{response_times, missed_count, first_missed};
+ghost use Rattle.response.specs.Analysis.{slack_list, missed_count, first_missed};
 ghost use Rattle.response.specs.Errors.{times_error};
 ghost use Rattle.response.specs.Promises.{bounds_fault, periods_fault, number_or_none, times_answer, Analyses};
 
 use super::assignment::Assignment;
 use super::errors::TimesError;
+use super::shares::share;
 use plan::Plan;
 
 // TIMES's answer: how many tasks miss their deadlines, and the first of them, counted from 1.
@@ -47,56 +48,59 @@ pub fn check_periods(plan: &Plan, periods: &[u32], space: usize) -> Result<(), T
     check_bounds(plan, periods)
 }
 
-// Writes each task's response time, and the requirement's 0 for one that misses its deadline.
-fn analyse(assignment: &Assignment, times: &mut [u32])
-    requires { length times.old ≡ length assignment.now.periods.now }
-    ensures { times.new ≡ response_times (plan_tasks assignment.now.plan.now) assignment.now.periods.now }
+// Writes each task's slack, under the load of the tasks above it: where they leave nothing, the climb up to the longest
+// response time would take millions of steps.
+fn analyse(assignment: &Assignment, slacks: &mut [i32])
+    requires { length slacks.old ≡ length assignment.now.periods.now }
+    ensures { slacks.new ≡ slack_list (plan_tasks assignment.now.plan.now) assignment.now.periods.now }
 {
-    for (i, time) in times.iter_mut().enumerate() {
-        *time = assignment.response_time(i).unwrap_or(0);
+    let mut load = 0;
+    for (i, slack) in slacks.iter_mut().enumerate() {
+        *slack = assignment.slack(i, load);
+        load += share(&assignment.plan.tasks[i], assignment.periods[i]);
     }
 }
 
-// How many of the response times are 0: of the numbers that were written, as their definition counts them.
-fn missed_count(times: &[u32]) -> u32
-    requires { length times.now ≤ max_tasks }
-    ensures { result ≡ missed_count times.now }
+// How many of the slacks are below 0: of the numbers that were written, as their definition counts them.
+fn missed_count(slacks: &[i32]) -> u32
+    requires { length slacks.now ≤ max_tasks }
+    ensures { result ≡ missed_count slacks.now }
 {
-    times.iter().filter(|&&time| time == 0).count() as u32
+    slacks.iter().filter(|&&slack| slack < 0).count() as u32
 }
 
-// The first task whose response time is 0, counted from 1; of the same numbers.
-fn first_missed(times: &[u32]) -> Option<u32>
-    requires { length times.now ≤ max_tasks }
-    ensures is { number_or_none result ≡ first_missed times.now }
+// The first task whose slack is below 0, counted from 1; of the same numbers.
+fn first_missed(slacks: &[i32]) -> Option<u32>
+    requires { length slacks.now ≤ max_tasks }
+    ensures is { number_or_none result ≡ first_missed slacks.now }
     ensures first { IfSome result (λ task. 1 ≤ task) }
 {
-    times
+    slacks
         .iter()
-        .position(|&time| time == 0)
+        .position(|&slack| slack < 0)
         .map(|i| (i + 1) as u32)
 }
 
 // TIMES of a plan that was loaded.
 #[tactic(auto, using(crate::proofs::Refusals::passed_rules))]
-pub fn times_of(plan: &Plan, periods: &[u32], times: &mut [u32]) -> Result<Times, TimesError>
-    ensures analyses { Analyses none (plan_tasks plan.now) periods.now times.old times.new (times_answer result) }
+pub fn times_of(plan: &Plan, periods: &[u32], slacks: &mut [i32]) -> Result<Times, TimesError>
+    ensures analyses { Analyses none (plan_tasks plan.now) periods.now slacks.old slacks.new (times_answer result) }
     ensures first { IfOk result (λ t. IfSome t.first (λ task. 1 ≤ task)) }
 {
-    check_periods(plan, periods, times.len())?;
-    analyse(&Assignment { plan, periods }, times);
+    check_periods(plan, periods, slacks.len())?;
+    analyse(&Assignment { plan, periods }, slacks);
     Ok(Times {
-        missed: missed_count(times),
-        first: first_missed(times),
+        missed: missed_count(slacks),
+        first: first_missed(slacks),
     })
 }
 
-// TIMES: the response times of a file's tasks at given periods, or a refusal that leaves the space as it was.
-pub fn response_times(file: &[u8], periods: &[u32], times: &mut [u32]) -> Result<Times, TimesError>
+// TIMES: the slacks of a file's tasks at given periods, or a refusal that leaves the space as it was.
+pub fn response_times(file: &[u8], periods: &[u32], slacks: &mut [i32]) -> Result<Times, TimesError>
     ensures analyses { Analyses (file_fault file.now) (tasks_of file.now)
-        periods.now times.old times.new (times_answer result) }
+        periods.now slacks.old slacks.new (times_answer result) }
     ensures first { IfOk result (λ t. IfSome t.first (λ task. 1 ≤ task)) }
 {
     let loaded = plan::load_plan(file)?;
-    times_of(&loaded.plan, periods, times)
+    times_of(&loaded.plan, periods, slacks)
 }

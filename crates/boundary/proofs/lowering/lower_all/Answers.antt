@@ -1,6 +1,6 @@
 use Rattle.std.proofs.Common.{◌≤◌, ◌*◌, sym, ◌∙◌, arith}
 use Rattle.plan.specs.Tasks.{max_ticks, max_weight}
-use Rattle.boundary.proofs.Found.{found, found-some}
+use Rattle.response.proofs.Found.{found, found-some}
 use Rattle.boundary.proofs.Lowered.{lowering-start, lowering-limits, node-some, lowering-responds, lowering-seeks}
 use Rattle.boundary.proofs.Lowered.{step_small, total-small, lowering-on, lowers-past, lowering-end}
 use Rattle.boundary.proofs.lowering.lower_all.Goals as goal

@@ -1,5 +1,5 @@
 use Rattle.std.proofs.Common.{sym, refl, ◌∙◌, arith}
-use Rattle.boundary.proofs.Found.{found-none, found-some}
+use Rattle.response.proofs.Found.{found-none, found-some}
 use Rattle.boundary.proofs.OnePeriod.{alike-is}
 use Rattle.boundary.proofs.Missing.{seeks-probes, probing-start, probing-end, probing-responds}
 use Rattle.boundary.proofs.Missing.{probing-climbs, probing-period, probing-small, probing-miss, probing-meet}

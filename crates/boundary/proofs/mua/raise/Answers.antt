@@ -1,5 +1,5 @@
 use Rattle.std.proofs.Common.{sym, ◌∙◌}
-use Rattle.boundary.proofs.Found.{found-none, found-some}
+use Rattle.response.proofs.Found.{found-none, found-some}
 use Rattle.boundary.proofs.Raising.{raises-seeks, raised-most, raised-last}
 use Rattle.boundary.proofs.mua.raise.Goals as goal
 

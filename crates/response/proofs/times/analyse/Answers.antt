@@ -6,6 +6,6 @@ use Rattle.response.proofs.times.analyse.Goals as goal
 pub returns : goal.returns
 returns c =
     let v = c.loop-i.invariant in
-    let e : c.loop-i.i ≡ length c.loop-i.times = omega arith in
-    all-written (plan_tasks c.args.assignment.now.plan.now) c.args.assignment.now.periods.now c.loop-i.times
+    let e : c.loop-i.i ≡ length c.loop-i.slacks = omega arith in
+    all-written (plan_tasks c.args.assignment.now.plan.now) c.args.assignment.now.periods.now c.loop-i.slacks
     (v.sized ∙ c.args.assignment.now.limits.sized) (rw e at v.written)

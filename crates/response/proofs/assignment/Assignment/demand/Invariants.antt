@@ -1,8 +1,7 @@
 use Rattle.std.proofs.Common.{◌≡◌, ◌≤◌, length, ◌+◌, ◌*◌}
 use Rattle.plan.specs.Promises.{plan_tasks}
 use Rattle.plan.specs.Tasks.{max_ticks, max_blocking, task_at}
-use Rattle.response.specs.Analysis.{own_demand, interference_above}
-use Rattle.response.specs.Inner.{max_time}
+use Rattle.response.specs.Analysis.{own_demand, interference_above, max_response}
 use Rattle.response.proofs.assignment.Assignment.demand.Given as goal
 
 abbrev pub invariant-loop-task : goal.invariant-loop-task
@@ -11,5 +10,5 @@ invariant-loop-task l =
     let n = length l.yielded in
     record {
       is : l.sum ≡ own_demand (task_at ts l.i) + interference_above ts l.self.periods.now n l.t;
-      few : l.sum ≤ max_ticks + max_blocking + max_ticks * max_time * n;
+      few : l.sum ≤ max_ticks + max_blocking + max_ticks * max_response * n;
     }

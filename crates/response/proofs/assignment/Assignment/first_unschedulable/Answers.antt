@@ -3,7 +3,7 @@ use Rattle.std.specs.Prelude.{MatchOption, IfSome}
 use Rattle.std.proofs.lemmas.Iterator.{first_from_Range}
 use Rattle.plan.specs.declared.tasks.Task.{Task}
 use Rattle.plan.specs.Promises.{plan_tasks}
-use Rattle.response.specs.Analysis.{meets, response_times, first_missed}
+use Rattle.response.specs.Analysis.{meets, slack_list, first_missed}
 use Rattle.response.specs.Inner.{some_task}
 use Rattle.response.proofs.Sustainable.{all-schedulable}
 use Rattle.response.proofs.Missed.{FirstMiss, schedulable-first, first_missed-is}
@@ -14,7 +14,7 @@ searched : (ts : List Task) (xs : List ℕ) (n : ℕ) → n ≡ length ts → (f
     → MatchOption found
     ((k : ℕ) → 0 ≤ k → k < n → meets ts xs k ≡ true)
     (λ i. (0 ≤ i) × (i < n) × (meets ts xs i ≡ false) × ((k : ℕ) → 0 ≤ k → k < i → meets ts xs k ≡ true))
-    → (some_task found ≡ first_missed (response_times ts xs)) × IfSome found (λ i. i < n)
+    → (some_task found ≡ first_missed (slack_list ts xs)) × IfSome found (λ i. i < n)
 searched ts xs n e None h =
     (sym (schedulable-first ts xs (all-schedulable ts xs (λ k l. h k (omega arith) (omega arith)))), tt)
 searched ts xs n e (Some i) h =

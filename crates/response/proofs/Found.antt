@@ -1,5 +1,5 @@
 -- Response times as the code answers them: none, or the time.
-use Rattle.std.proofs.Common.{◌≡◌, ℕ, zero, suc, ◌≤◌, rules, Some, None}
+use Rattle.std.proofs.Common.{◌≡◌, ℕ, zero, suc, leb, ◌≤◌, rules, is_some, Some, None}
 use Rattle.std.specs.Option.{IsSome}
 use Rattle.response.specs.Inner.{some_time}
 
@@ -14,3 +14,7 @@ found-some (suc n) e = search rules
 pub found : (n : ℕ) → 1 ≤ n → IsSome (some_time n)
 found zero h = search rules
 found (suc n) h = search rules
+
+pub is-found : (n : ℕ) → is_some (some_time n) ≡ leb 1 n
+is-found zero = search rules
+is-found (suc n) = search rules
