@@ -48,13 +48,13 @@ fn try_write(rt: &impl Print, file: &[u8], space: usize) -> io::Result<()> {
 
 // TIMES with the space and the periods of the call; the numbers of the space are 7.
 fn try_times(rt: &impl Print, file: &[u8], periods: &[u32], space: usize) -> io::Result<()> {
-    let mut times = [7; 17];
-    let times = &mut times[..space.min(17)];
-    let (Times { missed, first }, refusal) = given(response::response_times(file, periods, times));
+    let mut slacks = [7; 17];
+    let slacks = &mut slacks[..space.min(17)];
+    let (Times { missed, first }, refusal) = given(response::response_times(file, periods, slacks));
     let first = first.unwrap_or(0);
     println!(rt;
-        "{refusal} missed {missed} first {first} times{}",
-        Numbers(times)
+        "{refusal} missed {missed} first {first} slacks{}",
+        Numbers(slacks)
     )
 }
 

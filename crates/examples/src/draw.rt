@@ -1,7 +1,7 @@
 ghost use Rattle.std.specs.Prelude.{◌<◌};
 
 use super::small::{Assignment, PLACES, Place, SmallPlan};
-use plan::Task;
+use plan::{Plan, Task};
 use std::array;
 use std::ops::RangeInclusive;
 
@@ -62,6 +62,26 @@ impl Sequence {
             tasks[place.index()] = self.draw_task(*place, most);
         }
         SmallPlan { tasks, count }
+    }
+
+    // A plan of three tasks whose last one has up to two million ticks of its own to do.
+    pub(crate) fn draw_late_plan(&self) -> SmallPlan {
+        let last = Task {
+            wcet: self.draw(10, 1..=32767).saturating_mul(30),
+            period_min: Plan::MAX_TICKS,
+            period_max: Plan::MAX_TICKS,
+            deadline_cap: Plan::MAX_TICKS,
+            blocking: self.draw(11, 0..=32767).saturating_mul(30),
+            ..self.draw_task(Place::Third, 0)
+        };
+        SmallPlan {
+            tasks: [
+                self.draw_task(Place::First, 0),
+                self.draw_task(Place::Second, 0),
+                last,
+            ],
+            count: 3,
+        }
     }
 
     // Periods within the bounds in run k of four, by numbers 16 to 27.

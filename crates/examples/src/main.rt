@@ -17,7 +17,7 @@ mod many; // many.rt: all of these over many drawn plans
 use std::{io, str};
 
 fn main(rt: HostRuntime) -> io::Result<()> {
-    let mut input = [0u8; 32768];
+    let mut input = [0u8; 65536];
     let size = input::read_input(rt.stdin(), &mut input)?;
     let Ok(lines) = str::from_utf8(&input[..size]) else {
         return Err(io::Error::from(io::ErrorKind::InvalidData));

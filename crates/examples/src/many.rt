@@ -8,6 +8,8 @@ use std::{fmt, io};
 
 const PLANS: u32 = 8000;
 
+const LATE_PLANS: u32 = 40;
+
 #[derive(Clone, Copy, Default)]
 struct Counts {
     plans: u64,
@@ -31,7 +33,7 @@ impl Counts {
             let periods = sequence.draw_periods(k, plan);
             let cheapest = Run::draw(all, Planner::Cheapest, sequence, k);
             let best = Run::draw(all, Planner::Best, sequence, k);
-            self.times.compare(file, plan, &periods);
+            self.times.compare(file, plan, &periods, clock::SOON);
             self.cheapest.compare(&cheapest, file);
             self.best.compare(&best, file);
         }
@@ -49,19 +51,21 @@ impl fmt::Display for Counts {
         } = *self;
         write!(
             f,
-            "response times by the clock: plans {plans} {times}\n\
+            "slacks by the clock: plans {plans} {times}\n\
              cheapest periods by enumeration: plans {plans} period assignments {assignments} {cheapest}\n\
              best periods by enumeration: plans {plans} {best}\n"
         )
     }
 }
 
-// The counts over the drawn plans: in version 1 without blocking and jitter, and in version 2 with both from 0 to 3.
+// The counts over the drawn plans: in version 1 without blocking and jitter, and in version 2 with both from 0 to 3; and
+// over plans whose last task is done late, if at all.
 #[derive(Clone, Copy, Default)]
 struct Totals {
     free: Counts,
     blocked: Counts,
     changes: Changes,
+    late: clock::Counts,
 }
 
 impl Totals {
@@ -72,21 +76,34 @@ impl Totals {
         self.blocked.compare(sequence, Version::Two, &blocked);
         self.changes.compare(&free, &blocked);
     }
+
+    fn compare_late(&mut self, sequence: &Sequence) {
+        let plan = sequence.draw_late_plan();
+        let plan_file = TestFile::from_plan(Version::Two, &plan);
+        let periods = sequence.draw_periods(0, &plan);
+        self.late
+            .compare(plan_file.bytes(), &plan, &periods, clock::LONGEST);
+    }
 }
 
 pub(crate) fn run(rt: &impl Print) -> io::Result<()> {
     let mut totals = Totals::default();
     let mut sequence = Sequence::new(1);
-    for _ in 0..PLANS {
+    for k in 0..PLANS {
         totals.compare(&sequence);
+        if k < LATE_PLANS {
+            totals.compare_late(&sequence);
+        }
         sequence = Sequence::new(sequence.next_seed());
     }
     let Totals {
         free,
         blocked,
         changes,
+        late,
     } = totals;
     println!(rt;
-        "{free}the same plans with blocking and jitter, in version 2\n{blocked}optimum with blocking: {changes}"
+        "{free}the same plans with blocking and jitter, in version 2\n{blocked}optimum with blocking: {changes}\n\
+         slacks by the clock, every tick up to 2,000,000: {late}"
     )
 }

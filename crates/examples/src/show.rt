@@ -16,9 +16,9 @@ impl fmt::Display for Refusal {
 
 // Numbers, each behind a space.
 #[derive(Clone, Copy)]
-pub(crate) struct Numbers<'a>(pub &'a [u32]);
+pub(crate) struct Numbers<'a, T>(pub &'a [T]);
 
-impl<'a> fmt::Display for Numbers<'a> {
+impl<'a, T: fmt::Display> fmt::Display for Numbers<'a, T> {
     fn fmt<W: fmt::Write>(&self, f: &mut fmt::Formatter<W>) -> fmt::Result {
         for number in self.0 {
             write!(f, " {number}")?;
