@@ -4,10 +4,11 @@ use super::shares::begin_under;
 use super::tasks::{deadline, interference, own_demand};
 use plan::Plan;
 
-// The longest response time that is looked for; and the slack of a task that has none.
+// The longest response time that is looked for.
 const MAX_RESPONSE: u32 = 2_000_000;
 
-const NO_SLACK: i32 = -2_000_000;
+// The slack of a task that has none.
+pub const NO_SLACK: i32 = -2_000_000;
 
 // A plan's tasks at given periods.
 #[derive(Clone, Copy)]
@@ -22,7 +23,7 @@ impl<'a> Assignment<'a> {
     ghost use Rattle.plan.specs.Promises.{plan_tasks};
     ghost use Rattle.response.specs.Analysis.{demand, response_up_to, max_response, response_time, deadline_at};
     ghost use Rattle.response.specs.Analysis.{slack, meets, schedulable, slack_list, first_missed};
-    ghost use Rattle.response.specs.Inner.{Climbs, response_in_time, load_above, some_time, some_task};
+    ghost use Rattle.response.specs.Inner.{Climbs, load_above, some_time, some_task};
 
     // The deadline of task i.
     pub fn deadline(&self, i: usize) -> u32
@@ -77,7 +78,8 @@ impl<'a> Assignment<'a> {
         self.response_from(i, MAX_RESPONSE, start)
     }
 
-    // The slack of task i under the load of the tasks above: how much its response time leaves of its deadline.
+    // The slack of task i, how much its response time leaves of its deadline. The load of the tasks above tells where the
+    // climb may begin.
     pub fn slack(&self, i: usize, load: u64) -> i32
         requires { (i < length self.now.periods.now)
             × (load ≡ load_above (plan_tasks self.now.plan.now) self.now.periods.now i) }
@@ -90,21 +92,13 @@ impl<'a> Assignment<'a> {
         }
     }
 
-    // Its response time where it meets its deadline: the climb is left past that.
-    pub fn response_in_time(&self, i: usize) -> Option<u32>
-        requires { i < length self.now.periods.now }
-        ensures { result ≡ some_time (response_in_time (plan_tasks self.now.plan.now) self.now.periods.now i) }
-    {
-        let start = own_demand(&self.plan.tasks[i]);
-        self.response_from(i, self.deadline(i), start)
-    }
-
-    // Whether task i meets its deadline.
+    // Whether task i meets its deadline: the climb is left past that.
     pub fn meets_deadline(&self, i: usize) -> bool
         requires { i < length self.now.periods.now }
         ensures { result ≡ meets (plan_tasks self.now.plan.now) self.now.periods.now i }
     {
-        self.response_in_time(i).is_some()
+        let start = own_demand(&self.plan.tasks[i]);
+        self.response_from(i, self.deadline(i), start).is_some()
     }
 
     // Whether every task meets its deadline. The lowest is tried first: it is mostly the one that misses.

@@ -8,6 +8,7 @@ mod errors; // errors.rt: why TIMES refuses a call
 mod times; // times.rt: TIMES
 
 // TIMES
+pub use assignment::NO_SLACK;
 pub use errors::TimesError;
 pub use times::{Times, response_times};
 
