@@ -4,7 +4,7 @@ use mathlib.Core.List.{List, [], ◌∷◌}
 use Prim.Native.Nat.{ℕ, ◌≤◌, ◌<◌}
 use native.Mathlib.Omega.{arith}
 use lib.ListN.{length, get_or}
-use Rattle.std.specs.Prelude.{pos, negsuc}
+use Rattle.std.specs.Prelude.{ℤ, pos, negsuc}
 use Rattle.plan.specs.declared.tasks.Task.{Task}
 use Rattle.plan.specs.Words.{value_of, bytes_of, words_of}
 use Rattle.plan.specs.Tasks.{task_at}
@@ -15,9 +15,11 @@ use Rattle.plan.proofs.Accepted.{accepted-valid}
 use Rattle.plan.proofs.Samples.{plan_p, plan_s}
 use Rattle.response.specs.Analysis.{own_demand, demand, climb_from, response_up_to, no_slack, slack, slack_list}
 use Rattle.response.specs.Inner.{whole, load_above}
-use Rattle.response.specs.Promises.{slacks_of}
 use Rattle.response.proofs.Slack.{slack-exact}
 use Rattle.response.proofs.Load.{full-covers}
+
+abbrev slacks_of : List ℕ → List ℕ → List ℤ
+slacks_of s xs = slack_list (tasks_of s) xs
 
 pub record Published : Type 0 where
   pub p24 : slacks_of plan_p (2 ∷ 4 ∷ []) ≡ pos 1 ∷ pos 0 ∷ []

@@ -4,7 +4,6 @@ use Rattle.plan.specs.declared.faults.Fault.{Fault}
 use Rattle.plan.specs.declared.tasks.Task.{Task}
 use Rattle.plan.specs.Faults.{none, fault_if, passed, or_else, first_fault, first_from}
 use Rattle.plan.specs.Tasks.{between, task_at}
-use Rattle.plan.specs.Files.{tasks_of}
 use Rattle.response.specs.declared.times.Times.{Times}
 use Rattle.response.specs.declared.errors.TimesError.{TimesError}
 use Rattle.response.specs.Errors.{times_error_fault}
@@ -34,10 +33,6 @@ periods_fault ts xs space = first_fault (period_count_fault ts xs ∷ space_faul
 -- of a file's fault and tasks
 abbrev pub times_fault : Fault → List Task → List ℕ → ℕ → Fault
 times_fault f ts xs space = or_else f (periods_fault ts xs space)
-
--- the slacks of a file's tasks
-abbrev pub slacks_of : List ℕ → List ℕ → List ℤ
-slacks_of s xs = slack_list (tasks_of s) xs
 
 -- TIMES's answer: the refusal, how many tasks miss their deadlines, and the first of them, counted from 1, or 0
 pub record TimesAnswer : Type 0 where

@@ -80,7 +80,7 @@ impl<'a> Assignment<'a> {
 
     // The slack of task i, how much its response time leaves of its deadline. The load of the tasks above tells where the
     // climb may begin.
-    pub fn slack(&self, i: usize, load: u64) -> i32
+    pub(crate) fn slack(&self, i: usize, load: u64) -> i32
         requires { (i < length self.now.periods.now)
             × (load ≡ load_above (plan_tasks self.now.plan.now) self.now.periods.now i) }
         ensures { result ≡ slack (plan_tasks self.now.plan.now) self.now.periods.now i }
