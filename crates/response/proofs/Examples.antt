@@ -14,9 +14,9 @@ use Rattle.plan.specs.Files.{file_fault, tasks_of}
 use Rattle.plan.proofs.Accepted.{accepted-valid}
 use Rattle.plan.proofs.Samples.{plan_p, plan_s}
 use Rattle.response.specs.Analysis.{own_demand, demand, climb_from, response_up_to, no_slack, slack, slack_list}
-use Rattle.response.specs.Inner.{whole, load_above}
+use Rattle.response.specs.Inner.{whole, utilization_above}
 use Rattle.response.proofs.Slack.{slack-exact}
-use Rattle.response.proofs.Load.{full-covers}
+use Rattle.response.proofs.Idle.{full-covers}
 
 abbrev slacks_of : List ℕ → List ℕ → List ℤ
 slacks_of s xs = slack_list (tasks_of s) xs
@@ -39,19 +39,19 @@ full = 1 ∷ 8 ∷ []
 record Full : Type 0 where
   two : length p ≡ 2
   own : own_demand (task_at p 1) ≡ 2
-  load : load_above p full 1 ≡ whole
+  above : utilization_above p full 1 ≡ whole
   gauge : slack p full 0 ≡ pos 0
 
 computed : Full
 unfolding value_of bytes_of words_of header_bytes canonical first_from file_fault tasks_of response_up_to climb_from demand
-computed = record { two = refl; own = refl; load = refl; gauge = refl }
+computed = record { two = refl; own = refl; above = refl; gauge = refl }
 
 radio : slack p full 1 ≡ no_slack
 radio =
     let v = accepted-valid plan_p 1 (omega (arith, computed.two)) in
     let some : (k : ℕ) → k < 1 → 1 ≤ get_or full k 0 = λ k l. let e : k ≡ 0 = omega arith in rw e (omega arith) in
     (slack-exact p full 1 v (omega arith)).is_none
-    (λ t c. full-covers p full t 1 some (omega (arith, computed.own)) (omega (arith, computed.load)) c.covers)
+    (λ t c. full-covers p full t 1 some (omega (arith, computed.own)) (omega (arith, computed.above)) c.covers)
 
 slacks-full : slacks_of plan_p full ≡ pos 0 ∷ no_slack ∷ []
 unfolding slack_list

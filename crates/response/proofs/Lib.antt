@@ -4,7 +4,7 @@ pub mod Demand  -- what a task and those above it demand by a time
 pub mod Exactness  -- the climb, and the least time that covers
 pub mod Found  -- a response time that is looked for: there is one, or none
 pub mod Slack  -- slack, and that the climb may be left past the deadline
-mod Load  -- the load of the tasks above, and what it leaves
+mod Idle  -- what the tasks above leave of the processor
 pub mod Sustainable  -- meeting deadlines, and raising periods
 pub mod Early  -- the time test as examples compute it
 pub mod Missed  -- the first task that misses its deadline

@@ -48,11 +48,11 @@ module _ (ts : List Task) (xs : List ℕ) (i : ℕ) (v : Valid (task_at ts i)) w
   up c = record { some = c.some; early = omega (arith, c.early, v.cap_most); covers = c.covers }
 
   -- the deadline is met exactly where a time up to it covers
-  on-time : {t : ℕ} → Covers d ts xs i t → pos 0 ≤ℤ s
-  on-time {t} c = let l = any.least t (up c) in omega (arith, ints, slack-is d r l.0, l.1, c.early)
+  covers-slack : {t : ℕ} → Covers d ts xs i t → pos 0 ≤ℤ s
+  covers-slack {t} c = let l = any.least t (up c) in omega (arith, ints, slack-is d r l.0, l.1, c.early)
 
-  in-time : pos 0 ≤ℤ s → Covers d ts xs i r
-  in-time p = elim (le-or-lt 1 r) [
+  slack-covers : pos 0 ≤ℤ s → Covers d ts xs i r
+  slack-covers p = elim (le-or-lt 1 r) [
     | inl h ↦ record { some = h; early = omega (arith, ints, slack-is d r h); covers = (any.covers h).covers }
     | inr h ↦ let z : ⊥ = omega (arith, ints, slack-none d r h) in absurd z
   ]
@@ -62,9 +62,9 @@ module _ (ts : List Task) (xs : List ℕ) (i : ℕ) (v : Valid (task_at ts i)) w
   meets-in-time =
       let x = response-exact d ts xs i (omega (arith, v.wcet_some)) in
       elim (le-or-lt 1 (response_in_time ts xs i)) [
-        | inl h ↦ rw (le-leb 1 (response_in_time ts xs i) h) (let p = on-time (x.covers h) in grind (arith, ints))
+        | inl h ↦ rw (le-leb 1 (response_in_time ts xs i) h) (let p = covers-slack (x.covers h) in grind (arith, ints))
         | inr h ↦ rw (lt-leb 1 (response_in_time ts xs i) h)
-            (not-false (λ e. let p : pos 0 ≤ℤ s = grind (arith, ints) in omega (arith, (x.least r (in-time p)).0)))
+            (not-false (λ e. let p : pos 0 ≤ℤ s = grind (arith, ints) in omega (arith, (x.least r (slack-covers p)).0)))
       ]
 
   pub meets-responds : 1 ≤ response_in_time ts xs i → meets ts xs i ≡ true
@@ -80,11 +80,11 @@ module _ (ts : List Task) (xs : List ℕ) (i : ℕ) (v : Valid (task_at ts i)) w
         let c = any.covers h in
         let d-some : 1 ≤ d = omega (arith, v.cap_some) in
         record {
-          met = λ q. record { response = r; covers = in-time q; least = λ t k. (any.least t (up k)).1; is = e };
-          on_time = λ t. on-time;
+          met = λ q. record { response = r; covers = slack-covers q; least = λ t k. (any.least t (up k)).1; is = e };
+          on_time = λ t. covers-slack;
           late = λ q z. (
             record { response = r; covers = c; least = λ t k. (any.least t k).1; is = e },
-            λ t k. let w = on-time k in omega (arith, ints),
+            λ t k. let w = covers-slack k in omega (arith, ints),
           );
           none = λ z. let w : ⊥ = omega (arith, ints, e, c.early) in absurd w;
           is_none = λ n. absurd (n r c);
@@ -94,7 +94,7 @@ module _ (ts : List Task) (xs : List ℕ) (i : ℕ) (v : Valid (task_at ts i)) w
         let e = slack-none d r h in
         record {
           met = λ q. let z : ⊥ = omega (arith, ints, e) in absurd z;
-          on_time = λ t. on-time;
+          on_time = λ t. covers-slack;
           late = λ q z. let w : ⊥ = omega (arith, ints, e) in absurd w;
           none = λ z t k. omega (arith, (any.least t k).0);
           is_none = λ n. e;

@@ -36,22 +36,23 @@ pub record Climbs (limit : ℕ) (ts : List Task) (xs : List ℕ) (i start : ℕ)
   pub ends : limit ≤ max_response
   pub begins : Begins limit ts xs i start
 
--- a task's share of the processor, its wcet over its period, in parts of the whole and rounded down
+-- a task's utilization of the processor, its wcet over its period, in parts of the whole and rounded down
 abbrev pub whole : ℕ
 whole = 4294967296
 
-abbrev pub share : Task → ℕ → ℕ
-share task period = task.wcet * whole / period
+abbrev pub utilization : Task → ℕ → ℕ
+utilization task period = task.wcet * whole / period
 
--- and the load of the tasks above task i
-abbrev pub load_above : List Task → List ℕ → ℕ → ℕ
-load_above ts xs zero = 0
-load_above ts xs (suc j) = load_above ts xs j + share (task_at ts j) (get_or xs j 0)
+-- that of the tasks above task i
+abbrev pub utilization_above : List Task → List ℕ → ℕ → ℕ
+utilization_above ts xs zero = 0
+utilization_above ts xs (suc j) = utilization_above ts xs j + utilization (task_at ts j) (get_or xs j 0)
 
--- where a climb up to a limit may begin under a load: no time by which what it leaves holds the own demand comes before
-pub record BeginsUnder (own load limit t : ℕ) : Type 0 where
+-- where a climb up to a limit may begin by the utilization above: no time by which what it leaves idle holds the own
+-- demand comes before
+pub record BeginsByUtilization (own above limit t : ℕ) : Type 0 where
   pub some : 1 ≤ t
-  pub below : (s : ℕ) → s ≤ limit → own * whole + load * s ≤ s * whole → t ≤ s
+  pub below : (s : ℕ) → s ≤ limit → own * whole + above * s ≤ s * whole → t ≤ s
 
 -- a response time that is 0 where there is none, and a task, counted from 1, that is 0 where there is none
 abbrev pub some_time : ℕ → Option ℕ

@@ -1,7 +1,7 @@
 ghost use Rattle.response.specs.Inner.{Limits};
 
-use super::shares::begin_under;
 use super::tasks::{deadline, interference, own_demand};
+use super::utilization::begin_by_utilization;
 use plan::Plan;
 
 // The longest response time that is looked for.
@@ -23,7 +23,7 @@ impl<'a> Assignment<'a> {
     ghost use Rattle.plan.specs.Promises.{plan_tasks};
     ghost use Rattle.response.specs.Analysis.{demand, response_up_to, max_response, response_time, deadline_at};
     ghost use Rattle.response.specs.Analysis.{slack, meets, schedulable, slack_list, first_missed};
-    ghost use Rattle.response.specs.Inner.{Climbs, load_above, some_time, some_task};
+    ghost use Rattle.response.specs.Inner.{Climbs, utilization_above, some_time, some_task};
 
     // The deadline of task i.
     pub fn deadline(&self, i: usize) -> u32
@@ -78,14 +78,14 @@ impl<'a> Assignment<'a> {
         self.response_from(i, MAX_RESPONSE, start)
     }
 
-    // The slack of task i, how much its response time leaves of its deadline. The load of the tasks above tells where the
-    // climb may begin.
-    pub(crate) fn slack(&self, i: usize, load: u64) -> i32
+    // The slack of task i, how much its response time leaves of its deadline. The utilization of the tasks above tells
+    // where the climb may begin.
+    pub(crate) fn slack(&self, i: usize, above: u64) -> i32
         requires { (i < length self.now.periods.now)
-            × (load ≡ load_above (plan_tasks self.now.plan.now) self.now.periods.now i) }
+            × (above ≡ utilization_above (plan_tasks self.now.plan.now) self.now.periods.now i) }
         ensures { result ≡ slack (plan_tasks self.now.plan.now) self.now.periods.now i }
     {
-        let start = begin_under(own_demand(&self.plan.tasks[i]), load, MAX_RESPONSE);
+        let start = begin_by_utilization(own_demand(&self.plan.tasks[i]), above, MAX_RESPONSE);
         match self.response_from(i, MAX_RESPONSE, start) {
             Some(response) => self.deadline(i) as i32 - response as i32,
             None => NO_SLACK,

@@ -2,7 +2,7 @@
 
 // Response-time analysis at given periods.
 mod tasks; // tasks.rt: demand and deadline of one task
-mod shares; // shares.rt: what tasks take of the processor, and where a climb may begin under that
+mod utilization; // utilization.rt: what tasks take of the processor, and where a climb may begin by that
 mod assignment; // assignment.rt: tasks at given periods, their response times, slacks and deadlines
 mod errors; // errors.rt: why TIMES refuses a call
 mod times; // times.rt: TIMES

@@ -9,7 +9,7 @@ ghost use Rattle.response.specs.Promises.{bounds_fault, periods_fault, number_or
 
 use super::assignment::Assignment;
 use super::errors::TimesError;
-use super::shares::share;
+use super::utilization::utilization_of;
 use plan::Plan;
 
 // TIMES's answer: how many tasks miss their deadlines, and the first of them, counted from 1.
@@ -48,16 +48,16 @@ pub fn check_periods(plan: &Plan, periods: &[u32], space: usize) -> Result<(), T
     check_bounds(plan, periods)
 }
 
-// Writes each task's slack, under the load of the tasks above it: where they leave nothing, the climb up to the longest
-// response time would take millions of steps.
+// Writes each task's slack, by the utilization of the tasks above it: where they leave nothing of the processor, a climb
+// up to the longest response time would take up to two million steps.
 fn analyse(assignment: &Assignment, slacks: &mut [i32])
     requires { length slacks.old ≡ length assignment.now.periods.now }
     ensures { slacks.new ≡ slack_list (plan_tasks assignment.now.plan.now) assignment.now.periods.now }
 {
-    let mut load = 0;
+    let mut above = 0;
     for (i, slack) in slacks.iter_mut().enumerate() {
-        *slack = assignment.slack(i, load);
-        load += share(&assignment.plan.tasks[i], assignment.periods[i]);
+        *slack = assignment.slack(i, above);
+        above += utilization_of(&assignment.plan.tasks[i], assignment.periods[i]);
     }
 }
 

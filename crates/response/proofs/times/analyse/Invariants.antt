@@ -1,7 +1,7 @@
 use Rattle.std.proofs.Common.{◌≡◌, ◌≤◌, ◌*◌, length}
 use Rattle.plan.specs.Promises.{plan_tasks}
 use Rattle.plan.specs.Tasks.{max_ticks}
-use Rattle.response.specs.Inner.{whole, load_above}
+use Rattle.response.specs.Inner.{whole, utilization_above}
 use Rattle.response.proofs.Answers.{Written}
 use Rattle.response.proofs.times.analyse.Given as goal
 
@@ -9,6 +9,6 @@ abbrev pub invariant-loop-i : goal.invariant-loop-i
 invariant-loop-i l = let ts = plan_tasks l.assignment.plan.now in let xs = l.assignment.periods.now in record {
   sized : length l.slacks ≡ length xs;
   written : Written ts xs l.slacks l.i;
-  load_is : l.load ≡ load_above ts xs l.i;
-  few : l.load ≤ max_ticks * whole * l.i;
+  above_is : l.above ≡ utilization_above ts xs l.i;
+  few : l.above ≤ max_ticks * whole * l.i;
 }

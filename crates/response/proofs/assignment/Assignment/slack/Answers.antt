@@ -7,7 +7,7 @@ use Rattle.response.specs.Inner.{Limits, some_time}
 use Rattle.response.proofs.Exactness.{own-some, response-early}
 use Rattle.response.proofs.Found.{found-some}
 use Rattle.response.proofs.Slack.{slack-is}
-use Rattle.response.proofs.Load.{load-begins}
+use Rattle.response.proofs.Idle.{utilization-begins}
 use Rattle.response.proofs.assignment.Assignment.slack.Goals as goal
 
 -- the response time that was found
@@ -29,7 +29,7 @@ response_from-requires c =
     record {
       inside = omega (arith, l.sized);
       ends = omega arith;
-      begins = load-begins l c.requires.0 (rw c.deref.ensures.0 at c.own_demand.ensures) c.requires.1 c.begin_under-start.ensures;
+      begins = utilization-begins l c.requires.0 (rw c.deref.ensures.0 at c.own_demand.ensures) c.requires.1 c.begin_by_utilization-start.ensures;
     }
 
 pub overflow_cast-result-in-Some : goal.overflow_cast-result-in-Some
