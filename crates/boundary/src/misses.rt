@@ -9,8 +9,8 @@ use super::begins::begin_below;
 use plan::{Plan, Task};
 use response::{Assignment, deadline, own_demand};
 
-// The last period at which a deadline is missed, and a time at which the climbs right past it may begin: a response time
-// there, or the one at which they began before.
+// The last period at which a deadline is missed, and a time at which the climbs right past it may begin: a response
+// time there, or the one at which they began before.
 #[derive(Clone, Copy, Debug, PartialEq, Eq)]
 pub struct Miss {
     pub last: u32,
@@ -103,8 +103,8 @@ fn last_miss_between(plan: &Plan, u: &mut [u32], i: usize, k: usize, most: u32, 
     miss.last
 }
 
-// As `last_miss`, of all tasks below task i, the lowest first: it is mostly the one that misses longest. The time is the
-// lowest one's.
+// As `last_miss`, of all tasks below task i, the lowest first: it is mostly the one that misses longest. The time is
+// the lowest one's.
 fn last_miss_below(plan: &Plan, u: &mut [u32], i: usize, low: u32, most: u32, start: u32) -> Miss
     requires { SeeksBelow (plan_tasks plan.now) u.old i low most start }
     ensures is { let n = length u.old in

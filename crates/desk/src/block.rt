@@ -21,8 +21,8 @@ impl Carried {
 
     const PERIODS_AT: usize = 36;
 
-    // The periods behind the answer. By itself, since the check says of an array behind a reference alone that its numbers
-    // fit their type.
+    // The periods behind the answer. By itself, since the check says of an array behind a reference alone that its
+    // numbers fit their type.
     fn put_periods(block: &mut [u8; Carried::SIZE], periods: &[u32; Plan::MAX_TASKS])
         ensures put { block.new ≡ sets block.old periods_at (words_of periods.now) }
         ensures narrow { Narrow periods.now }

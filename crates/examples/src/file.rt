@@ -72,8 +72,8 @@ impl<'a> Word<'a> {
     }
 }
 
-// A plan file that is written piece by piece, over zeros: words write over what is there, and past the file's end, which
-// is set apart. It ends where its space does, at the latest.
+// A plan file that is written piece by piece, over zeros: words write over what is there, and past the file's end,
+// which is set apart. It ends where its space does, at the latest.
 #[derive(Drop)]
 pub(crate) struct TestFile {
     space: [u8; INPUT_SIZE],

@@ -58,8 +58,8 @@ impl fmt::Display for Counts {
     }
 }
 
-// The counts over the drawn plans: in version 1 without blocking and jitter, and in version 2 with both from 0 to 3; and
-// over plans whose last task is done late, if at all.
+// The counts over the drawn plans: in version 1 without blocking and jitter, and in version 2 with both from 0 to 3;
+// and over plans whose last task is done late, if at all.
 #[derive(Clone, Copy, Default)]
 struct Totals {
     free: Counts,

@@ -91,8 +91,8 @@ impl<'a> Run<'a> {
         Search::new(self.all, room, incumbent).run(self.budget)
     }
 
-    // Whether an end keeps what the enumeration says: it is the optimum, or its bound is at most the least cost, and its
-    // incumbent is schedulable and costs at least that.
+    // Whether an end keeps what the enumeration says: it is the optimum, or its bound is at most the least cost, and
+    // its incumbent is schedulable and costs at least that.
     fn is_sound(&self, end: &End, optimum: &Assignment) -> bool {
         let plan = &self.all.plan;
         let least = plan.cost(optimum);
@@ -115,7 +115,8 @@ impl<'a> Run<'a> {
         }
     }
 
-    // Whether a conclusion and the periods with it are those of the plain rounds, and these end as the enumeration says.
+    // Whether a conclusion and the periods with it are those of the plain rounds, and these end as the enumeration
+    // says.
     fn is_right(&self, conclusion: Conclusion, optimum: &Assignment, periods: &[u32]) -> bool {
         let Some(end) = self.search() else {
             return false;
@@ -127,8 +128,8 @@ impl<'a> Run<'a> {
         same_periods && conclusion == end.conclusion && self.is_sound(&end, optimum)
     }
 
-    // The answer on the plan's file where it is right. Both spaces are 7, and a refusal leaves them so; what is lent is cut
-    // to its length.
+    // The answer on the plan's file where it is right. Both spaces are 7, and a refusal leaves them so; what is lent is
+    // cut to its length.
     fn judge(&self, file: &[u8]) -> Option<Outcome> {
         let mut periods = [7; 3];
         let mut work = [7; 3 * ASSIGNMENTS];

@@ -23,8 +23,8 @@ fn mua(all: &Enumeration, node: Assignment) -> Assignment {
     mua
 }
 
-// Assignment x with the least period of a task, from one on, at which it is schedulable: `raised` the other way round, in
-// its own words, as the rule has it.
+// Assignment x with the least period of a task, from one on, at which it is schedulable: `raised` the other way round,
+// in its own words, as the rule has it.
 fn lowered(all: &Enumeration, x: Assignment, place: Place, from: u32) -> Assignment {
     for period in from..=x.period(place) {
         let v = x.with(place, period);

@@ -47,8 +47,8 @@ fn answer_input<T: AsSlice<u8> + Drop, F: FnOnce(&[u8]) -> Result<T, Fault>>(
 }
 
 // A program that takes no argument: a plan file from standard input, its answer to standard output. A refusal, or what
-// else goes wrong, is said on standard error, as the exit status tells nothing. The runtime's parts come one by one, since
-// by a bound `Env` the check would rest on the C functions of variables and folders, too.
+// else goes wrong, is said on standard error, as the exit status tells nothing. The runtime's parts come one by one,
+// since by a bound `Env` the check would rest on the C functions of variables and folders, too.
 pub fn run<T: AsSlice<u8> + Drop, F: FnOnce(&[u8]) -> Result<T, Fault>>(
     name: &str,
     argument: Result<usize, FillError>,

@@ -52,8 +52,8 @@ fn put_task(text: &mut Listing, name: &[u8], period: u32, time: u32)
     put_number(text, u64::from(time), b'\n');
 }
 
-// The lines of a file's tasks at given periods: an answer's, at which every task responds; 0 would stand for none. Periods
-// are lent, and no `Assignment`: in place of their limits it would be asked that its plan is the file's.
+// The lines of a file's tasks at given periods: an answer's, at which every task responds; 0 would stand for none.
+// Periods are lent, and no `Assignment`: in place of their limits it would be asked that its plan is the file's.
 fn put_tasks(text: &mut Listing, file: &PlanFile, periods: &[u32])
     requires room { length text.old.items + line_size * max_tasks ≤ listing_size }
     requires limits { Limits (plan_tasks file.now.plan) periods.now }

@@ -37,8 +37,8 @@ demand ts xs i t = own_demand (task_at ts i) + interference_above ts xs i t
 abbrev pub deadline_at : List Task → List ℕ → ℕ → ℕ
 deadline_at ts xs i = deadline (task_at ts i) (get_or xs i 0)
 
--- "The search for t climbs from the job's own work and stops at the first t that covers its own demand, or past" a limit;
--- 0 past it
+-- "The search for t climbs from the job's own work and stops at the first t that covers its own demand, or past" a
+-- limit; 0 past it
 unfoldable pub climb_from : ℕ → ℕ → List Task → List ℕ → ℕ → ℕ → ℕ
 climb_from zero limit ts xs i t = 0
 climb_from (suc left) limit ts xs i t =

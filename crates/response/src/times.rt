@@ -19,8 +19,8 @@ pub struct Times {
     pub first: Option<u32>,
 }
 
-// Rule 23: the first task whose period is outside its bounds. A loop, since `position` of pairs would take them apart in
-// a closure and its answer in a match.
+// Rule 23: the first task whose period is outside its bounds. A loop, since `position` of pairs would take them apart
+// in a closure and its answer in a match.
 fn check_bounds(plan: &Plan, periods: &[u32]) -> Result<(), TimesError>
     requires { length periods.now ≡ length (plan_tasks plan.now) }
     ensures { times_error result ≡ bounds_fault (plan_tasks plan.now) periods.now }
@@ -48,8 +48,8 @@ pub fn check_periods(plan: &Plan, periods: &[u32], space: usize) -> Result<(), T
     check_bounds(plan, periods)
 }
 
-// Writes each task's slack, by the utilization of the tasks above it: where they leave nothing of the processor, a climb
-// up to the longest response time would take up to two million steps.
+// Writes each task's slack, by the utilization of the tasks above it: where they leave nothing of the processor, a
+// climb up to the longest response time would take up to two million steps.
 fn analyse(assignment: &Assignment, slacks: &mut [i32])
     requires { length slacks.old ≡ length assignment.now.periods.now }
     ensures { slacks.new ≡ slack_list (plan_tasks assignment.now.plan.now) assignment.now.periods.now }
