@@ -1,13 +1,19 @@
--- Numbers as bytes: words of two and four bytes, bytes that are written one by one, and what they read back as.
-use mathlib.Core.Path.{◌≡◌, refl, ap}
-use mathlib.Core.List.{List, ◌++◌}
+-- Numbers as bytes: words of two, four and eight bytes, bytes that are written one by one, and what they read back as.
+use mathlib.Core.Path.{◌≡◌, refl, sym, ap, ◌∙◌}
+use mathlib.Core.Bool.{◌&&◌}
+use mathlib.Core.Logic.{inl, inr}
+use mathlib.Core.List.{List, [], ◌∷◌, ◌++◌}
 use Prim.Native.Nat.{ℕ, zero, suc, ◌+◌, ◌*◌, ◌/◌, ◌^◌, ◌≤◌, ◌<◌}
 use native.Mathlib.Nat.{pow-succ', mod-add-div}
 use native.Mathlib.Omega.{arith}
+use lib.Dec.{eqb}
 use lib.ListN.{length, get_or, drop}
 use lib.Seq.{sets, drop-cons}
+use borrow.Author.Tests.{eq-eqb, ne_eqb}
 use Rattle.std.specs.Int.{w16, w32, w64, to_le_bytes}
-use Rattle.plan.specs.Words.{value_of, bytes_of, words_of, word}
+use Rattle.plan.specs.Lists.{same}
+use Rattle.plan.specs.Words.{IsBytes, value_of, bytes_of, words_of, word}
+use Rattle.plan.proofs.Tests.{eq-or-ne}
 use Rattle.plan.proofs.Lists.{sets-append}
 use Rattle.plan.proofs.Joined.{joined_length, joined-from}
 
@@ -23,6 +29,26 @@ bytes-value (suc width) v h =
     let l : v < 256 * 256 ^ width = rw (pow-succ' 256 width) at h in
     let e : value_of (bytes_of width (v / 256)) ≡ v / 256 = bytes-value width (v / 256) (omega arith) in
     rw e (mod-add-div v 256)
+
+-- as many bytes are the same exactly where their numbers are
+digits-same : (x y a b : ℕ) → x < 256 → y < 256 → eqb (x + 256 * a) (y + 256 * b) ≡ (eqb x y && eqb a b)
+digits-same x y a b p q = elim (eq-or-ne x y) [
+  | inr h ↦ rw (ne_eqb x y h) (ne_eqb (x + 256 * a) (y + 256 * b) (λ e. h (omega arith)))
+  | inl e ↦ elim (eq-or-ne a b) [
+    | inr h ↦ rw (eq-eqb x y e, ne_eqb a b h) (ne_eqb (x + 256 * a) (y + 256 * b) (λ z. h (omega arith)))
+    | inl f ↦ rw (eq-eqb x y e, eq-eqb a b f) (eq-eqb (x + 256 * a) (y + 256 * b) (omega arith))
+  ]
+]
+
+pub same-value : (l m : List ℕ) → length l ≡ length m → IsBytes l → IsBytes m
+    → same l m ≡ eqb (value_of l) (value_of m)
+unfolding value_of
+same-value [] [] e p q = refl
+same-value [] (y ∷ ys) e p q = absurd (omega arith)
+same-value (x ∷ xs) [] e p q = absurd (omega arith)
+same-value (x ∷ xs) (y ∷ ys) e p q =
+    ap (λ b. eqb x y && b) (same-value xs ys (omega arith) (λ k. p (suc k)) (λ k. q (suc k)))
+    ∙ sym (digits-same x y (value_of xs) (value_of ys) (p 0) (q 0))
 
 -- the same bytes by their places
 pub two-bytes : (v : ℕ) → to_le_bytes w16 v ≡ bytes_of 2 v
@@ -69,6 +95,22 @@ word-four s at h =
     let b : at + 2 + 1 ≡ at + 3 = omega arith in
     rw (word-cons s at 3 (omega arith), word-cons s (at + 1) 2 (omega arith), a, word_two s (at + 2) (omega arith), b)
     (omega arith)
+
+pub word-eight : (s : List ℕ) (at : ℕ) → at + 8 ≤ length s
+    → word s at 8
+    ≡ get_or s at 0 + 256 * get_or s (at + 1) 0 + 65536 * get_or s (at + 2) 0 + 16777216 * get_or s (at + 3) 0
+    + 4294967296 * get_or s (at + 4) 0 + 1099511627776 * get_or s (at + 5) 0 + 281474976710656 * get_or s (at + 6) 0
+    + 72057594037927936 * get_or s (at + 7) 0
+word-eight s at h =
+    let a : at + 1 + 1 ≡ at + 2 = omega arith in
+    let b : at + 2 + 1 ≡ at + 3 = omega arith in
+    let c : at + 3 + 1 ≡ at + 4 = omega arith in
+    let d : at + 4 + 1 ≡ at + 5 = omega arith in
+    let e : at + 4 + 2 ≡ at + 6 = omega arith in
+    let f : at + 4 + 3 ≡ at + 7 = omega arith in
+    let four = rw (d, e, f) at (word-four s (at + 4) (omega arith)) in
+    rw (word-cons s at 7 (omega arith), word-cons s (at + 1) 6 (omega arith), a, word-cons s (at + 2) 5 (omega arith), b)
+    (rw (word-cons s (at + 3) 4 (omega arith), c) (omega arith))
 
 -- a number that is stored, then what stands behind it
 abbrev pub put : List ℕ → ℕ → ℕ → ℕ → List ℕ

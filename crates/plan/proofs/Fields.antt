@@ -3,7 +3,7 @@ use mathlib.Core.Path.{◌≡◌, refl, sym, ap, ◌∙◌}
 use mathlib.Core.Bool.{Bool, true, false, ◌&&◌, not, cond, false≢true}
 use mathlib.Core.Logic.{inl, inr}
 use mathlib.Core.List.{List, [], ◌∷◌, ◌++◌}
-use Prim.Native.Nat.{ℕ, zero, suc, ◌-◌, ◌≤◌, ◌<◌}
+use Prim.Native.Nat.{ℕ, zero, suc, ◌+◌, ◌-◌, ◌*◌, ◌≤◌, ◌<◌}
 use native.Mathlib.Omega.{arith}
 use lib.Dec.{eqb, leb, ltb}
 use lib.ListN.{length, get_or, take, drop, replicate, length-drop, take-append-drop}
@@ -11,11 +11,17 @@ use lib.Seq.{length-take-le}
 use borrow.Author.Tests.{ne_eqb, eqb-true, le-leb, leb-true, le-ltb, lt-ltb}
 use Rattle.std.specs.Prelude.{Option, None, Some, unwrap_or}
 use Rattle.std.specs.List.{list_all, position_or_len, prefix_len}
-use Rattle.std.specs.Cmp.Lexicographic.{pointwise}
-use Rattle.plan.specs.Lists.{same}
+use Rattle.plan.specs.Layout.{name_width, names_at, names_end_of, task_count}
 use Rattle.plan.specs.Names.{is_name_byte, all_zero, name_then_zeros, name_ok, without_zeros, name_field, named_earlier}
 use Rattle.plan.specs.Inner.{name_length}
 use Rattle.plan.proofs.Tests.{bool, le-or-lt, eq-or-ne, and_left, and_right}
+
+-- a file's name fields
+pub field-length : (s : List ℕ) → names_end_of s ≤ length s → (i : ℕ) → i < task_count s
+    → length (name_field s i) ≡ name_width
+field-length s fits i h =
+    let at : ℕ = names_at s + name_width * i in
+    length-take-le name_width (drop at s) (simp length-drop (omega arith))
 
 -- a byte before others
 module _ (b : ℕ) (bs : List ℕ) where
@@ -110,13 +116,6 @@ name-padded l e =
     let z : all_zero (drop k l) ≡ true = and_right (leb 1 k) (all_zero (drop k l)) (sym (name_ok-is l) ∙ e) in
     let rest : drop k l ≡ replicate (length l - k) 0 = rw (length-drop k l) at (zeros (drop k l) z) in
     rw (name-is l e, size, ← rest) (take-append-drop k l)
-
--- names are compared byte by byte
-pub same-pointwise : (l m : List ℕ) → same l m ≡ pointwise eqb l m
-same-pointwise [] [] = refl
-same-pointwise [] (y ∷ ys) = refl
-same-pointwise (x ∷ xs) [] = refl
-same-pointwise (x ∷ xs) (y ∷ ys) = ap (λ r. eqb x y && r) (same-pointwise xs ys)
 
 -- two files whose first n names are equal
 pub earlier-same :

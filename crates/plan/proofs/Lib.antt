@@ -7,6 +7,7 @@ pub mod Numbers  -- refusals as numbers
 pub mod Joined  -- parts of one length, joined and stored
 pub mod Bytes  -- numbers as bytes
 pub mod Fields  -- name fields
+pub mod NameWords  -- names compared by their words
 pub mod Header  -- the rules 1 to 6
 mod Gaps  -- bytes in no area
 pub mod Valid  -- valid tasks

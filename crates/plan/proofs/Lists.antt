@@ -1,14 +1,11 @@
 -- Lists that are tabulated: their length, elements, ends and images; and lists that are stored into others.
-use mathlib.Core.Path.{◌≡◌, refl, sym, ap, ◌∙◌}
-use mathlib.Core.Bool.{Bool, true, false, ◌||◌, ◌&&◌, or-false, and-true}
+use mathlib.Core.Path.{◌≡◌, refl, sym, ap}
 use mathlib.Core.List.{List, [], ◌∷◌, ◌++◌, append-nil, append_assoc}
 use Prim.Native.Nat.{ℕ, zero, suc, ◌+◌, ◌≤◌, ◌<◌}
 use native.Mathlib.Omega.{arith}
 use lib.ListN.{length, get_or, set, drop_of_length-le}
 use lib.Seq.{sets, sets-eq, drop-drop}
 use borrow.Rule.Slice.PartMut.{put_mid}
-use Rattle.std.specs.List.{list_any, list_all, range_with_len}
-use Rattle.std.proofs.lemmas.List.Folds.{list_any-append, list_all-append}
 use Rattle.plan.specs.Lists.{tabulate}
 
 module _ {A : Type 0} (f : ℕ → A) where
@@ -47,25 +44,3 @@ sets-whole l vs e =
 pub written-over : (l ys vs : List ℕ) (at k : ℕ) → at + length vs ≤ length l → k ≡ length vs → ys ≡ vs
     → put_mid at k l ys ≡ sets l at vs
 written-over l ys vs at k h e y = rw (y, e, drop-drop (length vs) at l, ← append_assoc) (sym (sets-eq vs l at h))
-
--- whether a test holds of any index below n, or of all: as `any` and `all` answer it, and by recursion from n down
-range-more : (i n : ℕ) → range_with_len i (suc n) ≡ range_with_len i n ++ ((i + n) ∷ [])
-range-more i zero = let e : i + 0 ≡ i = omega arith in rw e
-range-more i (suc n) =
-    let e : i + suc n ≡ i + 1 + n = omega arith in rw e (ap (λ (l : List ℕ). i ∷ l) (range-more (i + 1) n))
-
-pub any-below : (F t : ℕ → Bool) → F 0 ≡ false → ((j : ℕ) → F (suc j) ≡ (F j || t j)) → (n : ℕ)
-    → list_any t (range_with_len 0 n) ≡ F n
-any-below F t none step zero = sym none
-any-below F t none step (suc n) =
-    let z : 0 + n ≡ n = omega arith in
-    ap (list_any t) (range-more 0 n) ∙ list_any-append t (range_with_len 0 n) ((0 + n) ∷ [])
-    ∙ rw (any-below F t none step n, z, step n, or-false (t n))
-
-pub all-below : (F t : ℕ → Bool) → F 0 ≡ true → ((j : ℕ) → F (suc j) ≡ (F j && t j)) → (n : ℕ)
-    → list_all t (range_with_len 0 n) ≡ F n
-all-below F t none step zero = sym none
-all-below F t none step (suc n) =
-    let z : 0 + n ≡ n = omega arith in
-    ap (list_all t) (range-more 0 n) ∙ list_all-append t (range_with_len 0 n) ((0 + n) ∷ [])
-    ∙ rw (all-below F t none step n, z, step n, and-true (t n))

@@ -6,14 +6,13 @@ use mathlib.Core.List.{List, [], ◌++◌}
 use Prim.Native.Nat.{ℕ, suc, ◌+◌, ◌-◌, ◌*◌, ◌≤◌, ◌<◌}
 use native.Mathlib.Omega.{arith}
 use native.Mathlib.Numerals.{add-one}
-use lib.ListN.{length, get_or, drop, length-append, length-drop}
-use lib.Seq.{length-take-le}
+use lib.ListN.{length, get_or, drop, length-append}
 use Rattle.plan.specs.declared.faults.Fault.{Fault}
 use Rattle.plan.specs.declared.tasks.Task.{Task}
 use Rattle.plan.specs.Lists.{tabulate}
 use Rattle.plan.specs.Faults.{none, fault_if, or_else}
 use Rattle.plan.specs.Tasks.{Valid, no_task, task_at}
-use Rattle.plan.specs.Layout.{header_width, row_size, name_width, task_count, names_at}
+use Rattle.plan.specs.Layout.{header_width, row_size, name_width, task_count}
 use Rattle.plan.specs.Names.{name_field, name_ok, without_zeros}
 use Rattle.plan.specs.Files.{task_of, row_fault, task_fault, tasks_fault, repeat_fault, same_name_fault}
 use Rattle.plan.specs.Files.{accepted, tasks_of, names_of, name_of}
@@ -22,7 +21,7 @@ use Rattle.plan.specs.Promises.{IsCanonical}
 use Rattle.plan.proofs.Tests.{le-between}
 use Rattle.plan.proofs.Lists.{tabulate-length, tabulate-at, tabulate-same}
 use Rattle.plan.proofs.Rules.{run-all}
-use Rattle.plan.proofs.Fields.{name-padded, earlier-same}
+use Rattle.plan.proofs.Fields.{field-length, name-padded, earlier-same}
 use Rattle.plan.proofs.Accepted.{all_pass, accepted-areas, accepted-task, accepted-name, accepted-tasks, tasks-length, task-passes, name-passes}
 use Rattle.plan.proofs.Canonical.{Narrow, Formable, form-length, form-version, form-count, form-rows, form-names, form-task, form-name}
 use Rattle.plan.proofs.Canonical.{names-length, names-from, form-laid_out, form-no_gap}
@@ -62,21 +61,19 @@ module _ (s : List ℕ) (e : accepted s ≡ true) where
         let z : 0 + i ≡ i = omega arith in
         tabulate-at (λ k. name_of s (suc k)) (length (tasks_of s)) 0 i [] (omega (arith, tasks-length s e)) ∙ ap (λ k. name_of s (suc k)) z
 
-    field-length : length (name_field s i) ≡ name_width
-    field-length =
-        let at : ℕ = names_at s + name_width * i in
-        length-take-le name_width (drop at s) (simp length-drop (omega (arith, (accepted-areas s e).names_to)))
+    long : length (name_field s i) ≡ name_width
+    long = field-length s (accepted-areas s e).names_to i h
 
     name-most : length (name_of s (suc i)) ≤ name_width
     name-most =
         let f : List ℕ = name_field s i in
         let whole = simp length-append at (ap length (name-padded f (accepted-name s e i h))) in
-        rw name_of_lem (omega (arith, field-length, whole))
+        rw name_of_lem (omega (arith, long, whole))
 
     name-written : name_bytes (get_or (names_of s) i []) ≡ name_field s i
     name-written =
         let f : List ℕ = name_field s i in
-        rw (name_at_lem, name_of_lem) (rw field-length at (name-padded f (accepted-name s e i h)))
+        rw (name_at_lem, name_of_lem) (rw long at (name-padded f (accepted-name s e i h)))
 
   pub formable : Formable (tasks_of s) (names_of s)
   formable =

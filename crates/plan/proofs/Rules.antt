@@ -8,19 +8,15 @@ use native.Mathlib.Omega.{arith}
 use lib.ListN.{length, get_or}
 use borrow.Author.Tests.{eq-eqb, ne_eqb}
 use denote.Param.Members.{Mut}
-use denote.Ref.{Bor}
 use Rattle.std.specs.Prelude.{Option, None, Some}
-use Rattle.std.specs.Bool.{⊤}
-use Rattle.std.specs.Fn.{Called, CalledAt}
+use Rattle.std.specs.Fn.{Called}
 use Rattle.std.specs.Iterator.{YieldsThen}
 use Rattle.std.specs.List.{FoldsTo, AllWithin, HoldsAt}
 use Rattle.std.specs.Option.{MatchOption, option_map}
-use Rattle.std.specs.declared.ops.Range.{Range}
-use Rattle.std.proofs.iter.Yields.{nat_range_steps}
-use Rattle.std.proofs.lemmas.Iterator.{YieldsList, first_from_Range, IsFirst-from_position}
+use Rattle.std.proofs.lemmas.Iterator.{YieldsList, IsFirst-from_position}
 use Rattle.plan.specs.declared.faults.Fault.{Fault}
 use Rattle.plan.specs.Faults.{fault, none, fault_if, or_else, first_from}
-use Rattle.plan.proofs.Tests.{bool, eq-or-ne}
+use Rattle.plan.proofs.Tests.{eq-or-ne}
 
 -- a rule that passed leaves the word to the next; one that did not has it
 pub or-next : (f g : Fault) → f.number ≡ 0 → or_else f g ≡ g
@@ -146,41 +142,7 @@ pub run-found : (f : ℕ → Fault) (i n : ℕ) (r : Option ℕ) → FirstBroken
 run-found f i n None h = run-all f (n - i) i (λ k l m. h k l (omega arith))
 run-found f i n (Some k) (l, m, z, p) = run-first f n i k l m p z
 
--- the same of a rule for each task, by a test of its index: what `find` over the indices answers
-module _ (t : ℕ → Bool) (number : ℕ) where
-  abbrev pub task_rule : ℕ → Fault
-  task_rule i = fault_if (t i) (suc number) (suc i)
-
-  rule-broken : (i : ℕ) → t i ≡ true → (task_rule i).number ≡ 0 → ⊥
-  rule-broken i e z = let n : suc number ≡ 0 = rw e at z in omega arith
-
-  abbrev pub FirstTask : ℕ → Option ℕ → Type 0
-  FirstTask n r =
-      MatchOption r (first_from task_rule n 0 ≡ none)
-      (λ i. (i < n) × (first_from task_rule n 0 ≡ fault (suc number) (i + 1)))
-
-  first-task : (n : ℕ) (r : Option ℕ) → FirstBroken task_rule 0 n r → FirstTask n r
-  first-task n None h = let e : n - 0 ≡ n = omega arith in rw e at (run-found task_rule 0 n None h)
-  first-task n (Some i) h =
-      let l : i < n = h.1 in
-      let broken : t i ≡ true = elim (bool (t i)) [ inl e ↦ e | inr e ↦ absurd (h.2 (rw e)) ] in
-      let a : suc i ≡ i + 1 = omega arith in
-      let e : n - 0 ≡ n = omega arith in
-      (l, rw e at (run-found task_rule 0 n (Some i) h) ∙ rw (broken, a))
-
-  pub find-task : {F : Type 0} {g : Mut F (Bor ℕ × Unit {0}) Bool} (n : ℕ) (u : Range ℕ) (p : F) (r : Option ℕ)
-      → (xs : List ℕ) × (j : F) × YieldsThen nat_range_steps (record { start = 0; end = n }) xs r u
-      × FoldsTo (λ p x q. CalledAt g p x false q) p xs j × MatchOption r ⊤ (λ x. (h : F) × CalledAt g j x true h)
-      → ((x : ℕ) (b : Bool) (q : F) → CalledAt g p x b q → (q ≡ p) × (b ≡ t x))
-      → FirstTask n r
-  find-task n u p r ran test =
-      first-task n r
-      (first_from_Range (record { start = 0; end = n }) u p r (λ i. (task_rule i).number ≡ 0 → ⊥)
-      (λ i. (task_rule i).number ≡ 0) ran
-      (λ x q k. rule-broken x (sym (test x true q k).1))
-      (λ x q k. let e = test x false q k in (e.0, rw (← e.1))))
-
--- and of a rule for each element of a list, by a test of it: what `position` answers
+-- the same of a rule for each element of a list, by a test of it: what `position` answers
 module _ {A : Type 0} (t : A → Bool) (all : List A) (d : A) where
   abbrev pub FirstPassing : Option ℕ → Type 0
   FirstPassing r =

@@ -1,14 +1,16 @@
 -- What the inner functions promise, for their callers' proofs. A reader of the public calls needs none of it.
-use Rattle.std.specs.Prelude.{◌≡◌, true, false, List, [], ◌∷◌, not, ℕ, suc, ◌+◌, ◌-◌, ◌*◌, ◌≤◌, eqb, length, get_or}
+use Rattle.std.specs.Prelude.{◌≡◌, Bool, true, false, ◌&&◌, List, [], ◌∷◌, not, ℕ, suc, ◌+◌, ◌-◌, ◌*◌, ◌≤◌, eqb, length, get_or}
 use Rattle.plan.specs.declared.tasks.Task.{Task}
 use Rattle.plan.specs.declared.layout.Areas.{Areas}
 use Rattle.plan.specs.declared.faults.Fault.{Fault}
+use Rattle.plan.specs.declared.names.NameWords.{NameWords}
 use Rattle.std.specs.declared.ops.Range.{Range}
 use Rattle.plan.specs.Faults.{fault_if, first_from}
 use Rattle.plan.specs.Lists.{tabulate}
 use Rattle.plan.specs.Tasks.{max_tasks, max_file}
 use Rattle.plan.specs.Layout.{header_width, version, task_count, row_size, row_width_of}
 use Rattle.plan.specs.Layout.{rows_at, rows_end_of, names_at, names_end_of, overlap}
+use Rattle.plan.specs.Words.{word}
 use Rattle.plan.specs.Names.{is_name_byte}
 use Rattle.plan.specs.Files.{task_of}
 
@@ -62,6 +64,13 @@ pub record IsAt (p : ℕ × ℕ) (at : ℕ) (p' : ℕ × ℕ) : Type 0 where
 abbrev pub name_length : List ℕ → ℕ
 name_length [] = 0
 name_length (b ∷ bs) = elim (is_name_byte b) [ true ↦ suc (name_length bs) | false ↦ 0 ]
+
+-- a name field as two numbers of eight bytes, and whether two names have the same
+abbrev pub name_words : List ℕ → NameWords
+name_words field = record { first = word field 0 8; second = word field 8 8 }
+
+abbrev pub same_words : NameWords → NameWords → Bool
+same_words v w = eqb v.first w.first && eqb v.second w.second
 
 -- rules 8 to 10 alone: every task of the file
 abbrev pub Decodes : List ℕ → List Task → Type 0

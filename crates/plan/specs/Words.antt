@@ -1,6 +1,10 @@
 -- "Little-endian.": numbers as bytes, and bytes as numbers.
-use Rattle.std.specs.Prelude.{List, [], ◌∷◌, map, ℕ, zero, suc, ◌+◌, ◌*◌, ◌/◌, ◌%◌, take, drop}
+use Rattle.std.specs.Prelude.{List, [], ◌∷◌, map, ℕ, zero, suc, ◌+◌, ◌*◌, ◌/◌, ◌%◌, ◌<◌, get_or, take, drop}
 use Rattle.plan.specs.Lists.{joined}
+
+-- numbers that are bytes
+abbrev pub IsBytes : List ℕ → Type 0
+IsBytes s = (k : ℕ) → get_or s k 0 < 256
 
 -- the number that bytes hold
 unfoldable pub value_of : List ℕ → ℕ

@@ -1,28 +1,23 @@
-use Rattle.std.proofs.Common.{rules, tests, arith, sym, Some, None}
-use Rattle.plan.specs.Names.{named_earlier}
-use Rattle.plan.proofs.Rules.{FirstTask, find-task}
+use Rattle.std.proofs.Common.{◌<◌, length, arith, sym, ◌∙◌}
+use Rattle.std.proofs.lemmas.List.{take_more_set}
+use Rattle.plan.proofs.NameWords.{all-differ, name-repeated, name-differs}
 use Rattle.plan.proofs.located.Located.check_same_names.Goals as goal
 
-found : (c : goal.In-Some) → FirstTask (λ i. named_earlier c.args.self.now.file.now i i) 10 c.args.self.now.areas.tasks
-    (Some c.in-Some.i)
-found c =
-    find-task (λ i. named_earlier c.args.self.now.file.now i i) 10 c.args.self.now.areas.tasks _ _ (Some c.in-Some.i)
-    c.in-Some.ensures.ran
-    (λ x b q k. search (rules, tests))
+pub returns-then-is_among : goal.returns-then-is_among
+returns-then-is_among c =
+    let l = c.args.self.now in
+    let name = c.name_words-name in
+    name-repeated l.file.now c.loop-i.invariant l.placed.names_to l.bytes (omega (arith, l.placed.tasks)) name.result
+    name.ensures (sym c.if-is_among.true ∙ c.is_among.ensures)
 
-pub overflow_add-result : goal.overflow_add-result
-overflow_add-result c = omega (arith, (found c).0)
+pub loop-i-preserved : goal.loop-i-preserved
+loop-i-preserved c =
+    let l = c.args.self.now in
+    let name = c.name_words-name in
+    let room : c.loop-i.i < length c.loop-i.names = omega (arith, l.placed.few, l.placed.tasks) in
+    rw (take_more_set c.loop-i.names c.loop-i.i name.result room)
+    (name-differs l.file.now c.loop-i.invariant l.placed.names_to l.bytes (omega (arith, l.placed.tasks)) name.result
+    name.ensures (sym c.if-is_among.false ∙ c.is_among.ensures))
 
-pub overflow_cast-result : goal.overflow_cast-result
-overflow_cast-result c = omega (arith, (found c).0)
-
-pub returns-in-Some : goal.returns-in-Some
-returns-in-Some c = rw c.args.self.now.placed.tasks at (sym (found c).1)
-
-pub returns-in-None : goal.returns-in-None
-returns-in-None c =
-    let none : FirstTask (λ i. named_earlier c.args.self.now.file.now i i) 10 c.args.self.now.areas.tasks None =
-    find-task (λ i. named_earlier c.args.self.now.file.now i i) 10 c.args.self.now.areas.tasks _ _ None
-    c.in-None.ensures.ran
-    (λ x b q k. search (rules, tests)) in
-    rw c.args.self.now.placed.tasks at (sym none)
+pub returns : goal.returns
+returns c = all-differ c.args.self.now.file.now c.loop-i.invariant (omega (arith, c.args.self.now.placed.tasks))
