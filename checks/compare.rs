@@ -591,6 +591,33 @@ fn overfull_plan(random: &mut Random) -> Vec<Task> {
     loaded_plan(random, n, percent, true)
 }
 
+/// Files of sixteen names that are equal but for one byte, whichever it is, the same
+/// with each two of them equal, and one file of names that have each half from another.
+fn alike_names(comparison: &mut Comparison, random: &mut Random, version: u64) {
+    let sound = named(&[(1, 20, 40, 1_000, 1); 16]);
+    let mut halves = sound.clone();
+    for (i, task) in halves.iter_mut().enumerate() {
+        task.name[..8].fill(b'a' + i as u8 / 4);
+        task.name[8..].fill(b'a' + i as u8 % 4);
+    }
+    comparison.file(random, &encode(&halves, &tight(version, 16)), &[0]);
+    for at in 0..16 {
+        let mut alike = sound.clone();
+        for (i, task) in alike.iter_mut().enumerate() {
+            task.name = *b"TIDE-GAUGE-NORTH";
+            task.name[at] = b'a' + i as u8;
+        }
+        comparison.file(random, &encode(&alike, &tight(version, 16)), &[0]);
+        for later in 1..16 {
+            for earlier in 0..later {
+                let mut tasks = alike.clone();
+                tasks[later].name = tasks[earlier].name;
+                comparison.file(random, &encode(&tasks, &tight(version, 16)), &[0]);
+            }
+        }
+    }
+}
+
 fn version_1(seed: u64, random: &mut Random) -> Comparison {
     let mut comparison = Comparison::new(1, seed);
     chosen_files(&mut comparison, random);
@@ -604,6 +631,7 @@ fn version_1(seed: u64, random: &mut Random) -> Comparison {
     sound_plans(&mut comparison, random, 100, random_plan, |random| vec![random.within(50, 300)]);
     sound_plans(&mut comparison, random, 100, long_plan, |random| vec![random.within(500, 1_500)]);
     sound_plans(&mut comparison, random, 14, overfull_plan, |_| vec![u64::MAX]);
+    alike_names(&mut comparison, random, 1);
     comparison
 }
 
@@ -622,6 +650,7 @@ fn version_2(seed: u64, random: &mut Random) -> Comparison {
     sound_plans(&mut comparison, random, 100, held(random_plan), |random| vec![random.within(50, 300)]);
     sound_plans(&mut comparison, random, 100, held(long_plan), |random| vec![random.within(500, 1_500)]);
     sound_plans(&mut comparison, random, 14, held(overfull_plan), |_| vec![u64::MAX]);
+    alike_names(&mut comparison, random, 2);
     comparison
 }
 
