@@ -25,7 +25,8 @@ pub enum WriteError {
     SpaceLength { size: usize },
 }
 
-// By hand: a derive would not say `from_gives`, on which the clauses of functions with `?` stand. So in the layers above.
+// By hand: a derive would not say `from_gives`, on which the clauses of functions with `?` stand. So in the layers
+// above.
 impl From<ReadError> for WriteError {
     ghost use Rattle.std.specs.Prelude.{◌≡◌};
     ghost use Rattle.plan.specs.declared.errors.WriteError.TheVariants.{Read};

@@ -15,8 +15,8 @@ pub const HEADER_WIDTH: usize = 16;
 
 pub const NAME_WIDTH: usize = 16;
 
-// Where a file's rows and names are, of which version and how wide a row is, and how many tasks there are. The version is
-// the file's number, of which every clause speaks: an enum would be turned back into it there.
+// Where a file's rows and names are, of which version and how wide a row is, and how many tasks there are. The version
+// is the file's number, of which every clause speaks: an enum would be turned back into it there.
 #[derive(Clone, Debug, Drop)]
 pub struct Areas {
     pub version: u16,
@@ -116,8 +116,8 @@ pub fn layout_of(file: &[u8]) -> Result<Located<'_>, ReadError>
 impl Located<'_> {
     ghost use Rattle.plan.specs.Files.{gap_fault};
 
-    // Rule 7 in a gap. As in every search for the first that breaks a rule, what is found is put into the rule's own error
-    // by a match: a function over the error's constructor would be called in as many lines.
+    // Rule 7 in a gap. As in every search for the first that breaks a rule, what is found is put into the rule's own
+    // error by a match: a function over the error's constructor would be called in as many lines.
     fn check_gap(&self, gap: Range<usize>) -> Result<(), ReadError>
         requires { IsPart gap self.now.file.now }
         ensures { read_fault result ≡ bytes_fault self.now.file.now gap.start gap.end }

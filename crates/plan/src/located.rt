@@ -3,8 +3,8 @@ ghost use Rattle.plan.specs.Inner.{AreasOf};
 
 use super::layout::Areas;
 
-// A file that the rules 1 to 6 let pass, and where its areas are. That a slice of bytes holds bytes is known where it is
-// at hand, not where it is a field: so it is said here.
+// A file that the rules 1 to 6 let pass, and where its areas are. That a slice of bytes holds bytes is known where it
+// is at hand, not where it is a field: so it is said here.
 #[derive(Drop)]
 pub struct Located<'a> {
     pub file: &'a [u8],

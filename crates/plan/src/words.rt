@@ -2,8 +2,8 @@ ghost use Rattle.std.specs.Prelude.{◌≡◌, ◌+◌, ◌*◌, ◌≤◌, leng
 ghost use Rattle.plan.specs.Words.{word, words_of};
 ghost use Rattle.std.proofs.lemmas.List.Edits.{sets};
 
-// The little-endian number in 2 bytes from an offset on; in 4 and in 8 bytes below: one function a width, as the library
-// has one `from_le_bytes` a type.
+// The little-endian number in 2 bytes from an offset on; in 4 and in 8 bytes below: one function a width, as the
+// library has one `from_le_bytes` a type.
 pub fn word2_at(s: &[u8], at: usize) -> u16
     requires { at + 2 ≤ length s.now }
     ensures { result ≡ word s.now at 2 }
