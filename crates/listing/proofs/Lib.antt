@@ -1,5 +1,5 @@
 -- Laws of the listing, by subject.
 mod Decimal  -- a number's digits
-mod TaskLines  -- the lines of the tasks
+pub mod TaskLines  -- the lines of the tasks
 mod Conclusions  -- from what READ and CHEAPEST return to the text
 pub mod Examples  -- the published listing

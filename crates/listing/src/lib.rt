@@ -10,3 +10,4 @@ pub use writer::Listing;
 
 // for the other programs
 pub use lines::list_refusal;
+pub use writer::put_labelled;

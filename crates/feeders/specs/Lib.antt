@@ -1,0 +1,2 @@
+-- What program feeders prints.
+pub mod Text
