@@ -89,6 +89,16 @@ fn try_choice(rt: &impl Print, file: &[u8], choice: Choice) -> io::Result<()> {
     )
 }
 
+// FEEDERS with the space and the list of the call; the bytes of the space are 7.
+fn try_feeders(rt: &impl Print, file: &[u8], pairs: &[u8], space: usize) -> io::Result<()> {
+    let mut counts = [7; INPUT_SIZE];
+    let counts = &mut counts[..space.min(INPUT_SIZE)];
+    let answer = precedence::predecessors(file, pairs, counts);
+    let pair = answer.ok().flatten().unwrap_or(0);
+    let Fault { number, place } = answer.err().map_or(Fault::none(), Fault::from);
+    println!(rt; " {number} {place} pair {pair} counts{}", Numbers(counts))
+}
+
 // The listing of a file, as program timetable writes it, with the budget and the room of the call.
 fn list(file: &[u8], budget: u64, room: usize) -> Listing {
     let mut work = [7; WORK];
@@ -109,6 +119,7 @@ fn try_example(rt: &impl Print, example: &Example) -> io::Result<()> {
         Call::Write { space } => try_write(rt, file, *space),
         Call::Times { space, periods } => try_times(rt, file, periods, *space),
         Call::Choose(choice) => try_choice(rt, file, *choice),
+        Call::Feeders { space, pairs } => try_feeders(rt, file, pairs, *space),
         Call::List { budget, room } => show_listing(rt, &list(file, *budget, *room)),
         Call::Print => show_listing(rt, &listing::list_input(file)),
     }

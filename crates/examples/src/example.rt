@@ -35,6 +35,10 @@ pub(crate) enum Call {
         periods: ArrayVec<u32, 17>,
     },
     Choose(Choice),
+    Feeders {
+        space: usize,
+        pairs: ArrayVec<u8, 512>,
+    },
     List {
         budget: u64,
         room: usize,
@@ -65,6 +69,18 @@ fn listed(mut words: SplitWhitespace<'_>) -> Option<ArrayVec<u32, 17>> {
     }
 }
 
+// The bytes of a list of pairs, behind their label.
+fn bytes(mut words: SplitWhitespace<'_>) -> Option<ArrayVec<u8, 512>> {
+    let mut bytes = ArrayVec::new();
+    if words.next()? != "pairs" {
+        return None;
+    }
+    for word in words {
+        bytes.try_push(word.parse().ok()?).ok()?;
+    }
+    Some(bytes)
+}
+
 impl Call {
     fn parse(call: &str) -> Option<Call> {
         let mut words = call.split_whitespace();
@@ -79,6 +95,10 @@ impl Call {
             }),
             "cheapest" => Choice::parse(Planner::Cheapest, words).map(Call::Choose),
             "best" => Choice::parse(Planner::Best, words).map(Call::Choose),
+            "feeders" => Some(Call::Feeders {
+                space: labelled(&mut words, "space")? as usize,
+                pairs: bytes(words)?,
+            }),
             "list" => Some(Call::List {
                 budget: labelled(&mut words, "budget")?,
                 room: labelled(&mut words, "room")? as usize,

@@ -3,7 +3,7 @@ use super::enumeration::Enumeration;
 use super::file::{TestFile, Version};
 use super::operations::Planner;
 use super::planner::{Changes, Run};
-use super::{clock, planner};
+use super::{chains, clock, planner};
 use std::{fmt, io};
 
 const PLANS: u32 = 8000;
@@ -59,13 +59,14 @@ impl fmt::Display for Counts {
 }
 
 // The counts over the drawn plans: in version 1 without blocking and jitter, and in version 2 with both from 0 to 3;
-// and over plans whose last task is done late, if at all.
+// over plans whose last task is done late, if at all; and over lists of pairs.
 #[derive(Clone, Copy, Default)]
 struct Totals {
     free: Counts,
     blocked: Counts,
     changes: Changes,
     late: clock::Counts,
+    chains: chains::Counts,
 }
 
 impl Totals {
@@ -75,6 +76,7 @@ impl Totals {
         self.free.compare(sequence, Version::One, &free);
         self.blocked.compare(sequence, Version::Two, &blocked);
         self.changes.compare(&free, &blocked);
+        self.chains.compare(sequence);
     }
 
     fn compare_late(&mut self, sequence: &Sequence) {
@@ -101,9 +103,11 @@ pub(crate) fn run(rt: &impl Print) -> io::Result<()> {
         blocked,
         changes,
         late,
+        chains,
     } = totals;
     println!(rt;
         "{free}the same plans with blocking and jitter, in version 2\n{blocked}optimum with blocking: {changes}\n\
-         slacks by the clock, every tick up to 2,000,000: {late}"
+         slacks by the clock, every tick up to 2,000,000: {late}\n\
+         predecessors by enumeration of chains: {chains}"
     )
 }
