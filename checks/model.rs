@@ -1,7 +1,9 @@
 //! docs/FORMAT.md in plain Rust: the file rules, the canonical form, the exact test
 //! of Lehoczky, Sha and Ding, the search round by round with its incumbent, the
-//! desk's block and the listing. It goes the plainest way everywhere and is 64 bits
-//! wide throughout; nothing here is shared with what it checks.
+//! desk's block, the listing, and who feeds whom. It goes the plainest way everywhere
+//! and is 64 bits wide throughout; nothing here is shared with what it checks.
+
+use std::collections::BTreeSet;
 
 pub const WORK_SPACE: u64 = 16_000;
 const LISTING_BUDGET: u64 = 100_000;
@@ -403,4 +405,53 @@ fn lines(tasks: &[Task], periods: &[u64]) -> String {
         format!("{name} {} {time}\n", periods[i])
     };
     (0..tasks.len()).map(line).collect()
+}
+
+// Who feeds whom.
+
+const LIST_MAX: usize = 240;
+
+/// The feeders of a job, by following the pairs upwards until nobody new is met.
+fn feeders_of(pairs: &[(u8, u8)], job: u8) -> BTreeSet<u8> {
+    let mut feeders = BTreeSet::new();
+    let mut readers = vec![job];
+    while let Some(reader) = readers.pop() {
+        for &(feeder, _) in pairs.iter().filter(|pair| pair.1 == reader) {
+            if feeders.insert(feeder) {
+                readers.push(feeder);
+            }
+        }
+    }
+    feeders
+}
+
+/// FEEDERS of n jobs: their counts, and the first pair that is upside down, or 0.
+fn count_feeders(n: usize, list: &[u8]) -> Result<(Vec<usize>, usize), Refusal> {
+    if list.len() % 2 == 1 || list.len() > LIST_MAX {
+        return Err((61, 0));
+    }
+    let pairs: Vec<_> = list.chunks(2).map(|pair| (pair[0], pair[1])).collect();
+    let is_job = |number: u8| (1..=n).contains(&usize::from(number));
+    if let Some(at) = pairs.iter().position(|&(feeder, reader)| !is_job(feeder) || !is_job(reader)) {
+        return Err((62, at as u32 + 1));
+    }
+    let counts = (1..=n).map(|job| feeders_of(&pairs, job as u8).len()).collect();
+    let upside_down = pairs.iter().position(|&(feeder, reader)| feeder >= reader);
+    Ok((counts, upside_down.map_or(0, |at| at + 1)))
+}
+
+/// What program `feeders` prints of a plan file and a list of pairs: one line a job,
+/// with its name and its count, and the pair.
+pub fn feeders(file: &[u8], list: &[u8]) -> String {
+    let answer = read(taken(file)).and_then(|tasks| count_feeders(tasks.len(), list).map(|counted| (tasks, counted)));
+    let (tasks, (counts, pair)) = match answer {
+        Ok(answer) => answer,
+        Err(refusal) => return refusal_line(refusal),
+    };
+    let line = |(task, count): (&Task, usize)| {
+        let name = std::str::from_utf8(letters(&task.name)).expect("a name that was read");
+        format!("{name} {count}\n")
+    };
+    let lines: String = tasks.iter().zip(counts).map(line).collect();
+    lines + &format!("pair {pair}\n")
 }
