@@ -105,8 +105,8 @@ fn chain(pairs: &[Pair], length: u32, digits: usize) -> Option<Pair> {
     Some([first, last])
 }
 
-// The ends of all chains of up to five pairs, each once. A longer chain among five tasks comes to one of them twice, and
-// a shorter one has the same ends.
+// The ends of all chains of up to five pairs, each once. A longer chain among five tasks comes to one of them twice,
+// and a shorter one has the same ends.
 fn chains(pairs: &[Pair]) -> ArrayVec<Pair, 25> {
     let mut all = ArrayVec::new();
     let mut count = 1usize;

@@ -3,9 +3,10 @@ ghost use Rattle.std.specs.Prelude.{◌≤◌, IfOk, length};
 use std::env::{Env, FillError};
 use std::{fs, io, str};
 
-// The longest name of a file, in bytes.
+// The longest name of a file that the system takes, with the byte that ends it.
 const MAX_NAME: usize = 4096;
 
+// Whether the program was given so many arguments or more.
 pub(crate) fn is_given(rt: &HostRuntime, argument: usize) -> bool {
     !matches!(rt.arg(argument, &mut []), Err(FillError::NotPresent))
 }

@@ -15,7 +15,7 @@ use Rattle.plan.proofs.Tests.{bool, eq-or-ne}
 use Rattle.precedence.specs.declared.pairs.Pair.{Pair}
 use Rattle.precedence.specs.Chains.{Named, Chain}
 use Rattle.precedence.specs.Chains.Chain.{one_pair, one_more}
-use Rattle.precedence.specs.Inner.{IsTasks, AllTasks, bit_of, HasNamed, HasChains, joined, joined_through}
+use Rattle.precedence.specs.Inner.{OfTasks, AllOfTasks, bit_of, HasNamed, HasChains, joined, joined_through}
 use Rattle.precedence.proofs.Bits.{set-either, set-left, set-right}
 
 -- masks joined through the first tasks, so many
@@ -82,9 +82,9 @@ closed-through (suc m) masks i j k l a b = elim (joined-either m (closed m masks
 ]
 
 -- the pairs are of tasks
-module _ (ps : List Pair) (tasks : AllTasks max_tasks ps) (masks : List ℕ) (named : HasNamed ps masks) where
-  of-tasks : {k i : ℕ} → Named ps k i → IsTasks max_tasks (record { predecessor = k; successor = i })
-  of-tasks n = All-contains (IsTasks max_tasks) ps _ tasks n
+module _ (ps : List Pair) (tasks : AllOfTasks max_tasks ps) (masks : List ℕ) (named : HasNamed ps masks) where
+  of-tasks : {k i : ℕ} → Named ps k i → OfTasks max_tasks (record { predecessor = k; successor = i })
+  of-tasks n = All-contains (OfTasks max_tasks) ps _ tasks n
 
   some-named : (i k : ℕ) → Named ps k i → bit_of masks (pred i) (pred k) ≡ 1
   some-named zero k n = let z : ⊥ = omega (arith, (of-tasks n).second) in absurd z

@@ -14,10 +14,10 @@ pub record Joined (j i : ℕ) (masks old : List ℕ) : Type 0 where
   pub others : (k : ℕ) → i ≤ k → get_or masks k 0 ≡ get_or old k 0
 
 module _ {j i : ℕ} {masks old : List ℕ} (v : Joined j i masks old) where
-  pub joined-more : i < length old → {mask : ℕ}
+  pub one-more-joined : i < length old → {mask : ℕ}
       → mask ≡ joined j old (get_or masks i 0)
       → Joined j (i + 1) (set masks i mask) old
-  joined-more inside {mask} is =
+  one-more-joined inside {mask} is =
       let at = get_or-map (joined j old) old i 0 0 inside in
       let room : i < length (joined_through j old) = omega (arith, length-map old (joined j old)) in
       let same = v.others i (omega arith) in

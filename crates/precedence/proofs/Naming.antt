@@ -13,7 +13,7 @@ use Rattle.std.proofs.lemmas.Nat.Bits.{bit_at-zero, bit_at_set_same, bit_at_set_
 use Rattle.plan.specs.Tasks.{max_tasks}
 use Rattle.plan.proofs.Tests.{le-or-lt, eq-or-ne}
 use Rattle.precedence.specs.declared.pairs.Pair.{Pair}
-use Rattle.precedence.specs.Inner.{IsTasks, bit_of, HasNamed}
+use Rattle.precedence.specs.Inner.{OfTasks, bit_of, HasNamed}
 
 -- the masks before any pair
 zero-at : (n i : ℕ) → ◌≡◌ {A = ℕ} (get_or (replicate n 0) i 0) 0
@@ -29,7 +29,7 @@ none-named i k = (
 )
 
 -- the masks after one more pair
-module _ (ps : List Pair) (masks : List ℕ) (named : HasNamed ps masks) (p : Pair) (tasks : IsTasks max_tasks p)
+module _ (ps : List Pair) (masks : List ℕ) (named : HasNamed ps masks) (p : Pair) (tasks : OfTasks max_tasks p)
     (sized : length masks ≡ max_tasks) where
   -- task and bit, counted from 0
   abbrev task : ℕ

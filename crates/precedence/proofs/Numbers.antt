@@ -1,5 +1,4 @@
 -- The numbers of FEEDERS's refusals.
-use mathlib.Core.Path.{◌≡◌}
 use Prim.Native.Nat.{◌≤◌}
 use native.Mathlib.Omega.{arith}
 use Rattle.plan.proofs.Numbers.{read-error-numbers}

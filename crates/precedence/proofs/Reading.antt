@@ -15,7 +15,7 @@ use Rattle.plan.specs.Tasks.{between}
 use Rattle.plan.proofs.Tests.{bool, and_left, and_right, between_le}
 use Rattle.precedence.specs.declared.pairs.Pair.{Pair}
 use Rattle.precedence.specs.Pairs.{pairs_of, first_pair, is_outside, first_outside}
-use Rattle.precedence.specs.Inner.{AllTasks}
+use Rattle.precedence.specs.Inner.{AllOfTasks}
 
 -- a pair of the list as two bytes
 abbrev pub pair_of : List ℕ → Pair
@@ -59,7 +59,7 @@ none-found test ps e = elim (bool (ltb (position_or_len test ps) (length ps))) [
   | inr f ↦ ltb-false _ _ f
 ]
 
-pub none-outside : (n : ℕ) (ps : List Pair) → first_outside n ps ≡ 0 → AllTasks n ps
+pub none-outside : (n : ℕ) (ps : List Pair) → first_outside n ps ≡ 0 → AllOfTasks n ps
 none-outside n ps e k d l =
     let p : Pair = get_or ps k d in
     let inside = not-false _ (none-passes (is_outside n) ps k d l (none-found (is_outside n) ps e)) in

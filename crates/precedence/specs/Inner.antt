@@ -5,15 +5,15 @@ use Rattle.std.specs.List.{All}
 use Rattle.precedence.specs.declared.pairs.Pair.{Pair}
 use Rattle.precedence.specs.Chains.{Named, Chain}
 
--- every pair is of two of the tasks 1 to n
-pub record IsTasks (n : ℕ) (p : Pair) : Type 0 where
+-- a pair is of two of the tasks 1 to n
+pub record OfTasks (n : ℕ) (p : Pair) : Type 0 where
   pub first : 1 ≤ p.predecessor
   pub first_most : p.predecessor ≤ n
   pub second : 1 ≤ p.successor
   pub second_most : p.successor ≤ n
 
-abbrev pub AllTasks : ℕ → List Pair → Type 0
-AllTasks n ps = All (IsTasks n) ps
+abbrev pub AllOfTasks : ℕ → List Pair → Type 0
+AllOfTasks n ps = All (OfTasks n) ps
 
 -- bit k of task i's mask
 abbrev pub bit_of : List ℕ → ℕ → ℕ → ℕ

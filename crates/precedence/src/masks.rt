@@ -1,6 +1,6 @@
 ghost use Rattle.std.specs.Prelude.{◌≡◌, ◌<◌, ◌≤◌, count_ones, length, map, take};
 ghost use Rattle.plan.specs.Tasks.{max_tasks};
-ghost use Rattle.precedence.specs.Inner.{AllTasks, HasNamed, HasChains, joined_through};
+ghost use Rattle.precedence.specs.Inner.{AllOfTasks, HasNamed, HasChains, joined_through};
 
 use super::pairs::Pair;
 use plan::Plan;
@@ -10,7 +10,7 @@ type Masks = [u16; Plan::MAX_TASKS];
 
 // Of each task, those that a pair names as its predecessors.
 fn named_masks(pairs: &[Pair]) -> Masks
-    requires { AllTasks max_tasks pairs.now }
+    requires { AllOfTasks max_tasks pairs.now }
     ensures { HasNamed pairs.now result }
 {
     let mut masks = [0; Plan::MAX_TASKS];
@@ -35,7 +35,7 @@ fn join_through(masks: &mut Masks, task: usize)
 
 // Each task's predecessors: one pass of Warshall's algorithm.
 pub(crate) fn predecessor_masks(pairs: &[Pair]) -> Masks
-    requires { AllTasks max_tasks pairs.now }
+    requires { AllOfTasks max_tasks pairs.now }
     ensures { HasChains pairs.now result }
 {
     let mut masks = named_masks(pairs);

@@ -2,7 +2,7 @@ ghost use Rattle.std.specs.Prelude.{◌≡◌, ◌≤◌, IfOk, IfSome, length, 
 ghost use Rattle.plan.specs.Faults.{or_else};
 ghost use Rattle.precedence.specs.Pairs.{pairs_of, list_fault, is_outside, pairs_fault, max_pairs};
 ghost use Rattle.precedence.specs.Pairs.{first_outside, first_misordered};
-ghost use Rattle.precedence.specs.Inner.{AllTasks};
+ghost use Rattle.precedence.specs.Inner.{AllOfTasks};
 ghost use Rattle.precedence.specs.Errors.{precedence_error};
 
 use super::errors::PrecedenceError;
@@ -82,7 +82,7 @@ pub(crate) fn read_pairs(
     ensures refuses { let s = list.now in
         precedence_error result ≡ or_else (list_fault s) (pairs_fault tasks (pairs_of s)) }
     ensures reads { IfOk result (λ ps. ps.items ≡ pairs_of list.now) }
-    ensures tasks { IfOk result (λ ps. AllTasks tasks ps.items) }
+    ensures tasks { IfOk result (λ ps. AllOfTasks tasks ps.items) }
     ensures few { IfOk result (λ ps. length ps.items ≤ max_pairs) }
 {
     let pairs = split_list(list)?;

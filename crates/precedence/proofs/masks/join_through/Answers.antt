@@ -1,7 +1,7 @@
 use Rattle.std.proofs.Common.{◌<◌, ◌∙◌, refl, sym, length, get_or, arith}
 use Rattle.std.proofs.lemmas.Nat.Bits.{shr_and_one}
 use borrow.Author.Tests.{eq-eqb, ne_eqb}
-use Rattle.precedence.proofs.Joining.{joined-more, all-joined}
+use Rattle.precedence.proofs.Joining.{one-more-joined, all-joined}
 use Rattle.precedence.proofs.masks.join_through.Goals as goal
 use Rattle.precedence.proofs.masks.join_through.Goals.{then-mask-task-eq1, else-mask-task-eq1}
 
@@ -13,10 +13,10 @@ loop-mask-preserved c =
     elim c.if-mask-task-eq1.branch [
       | then-mask-task-eq1 w ↦
           let set = eq-eqb _ 1 (sym bit ∙ w.if-mask-task-eq1.true) in
-          rw w.masks-is (joined-more v inside (rw set refl))
+          rw w.masks-is (one-more-joined v inside (rw set refl))
       | else-mask-task-eq1 w ↦
           let unset = ne_eqb _ 1 (λ e. w.if-mask-task-eq1.false (bit ∙ e)) in
-          rw w.masks-is (joined-more v inside (rw unset refl))
+          rw w.masks-is (one-more-joined v inside (rw unset refl))
     ]
 
 pub returns : goal.returns

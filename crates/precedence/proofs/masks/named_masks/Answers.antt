@@ -3,7 +3,7 @@ use Rattle.std.proofs.lemmas.List.{length-set, take_more, take_all}
 use Rattle.std.proofs.lemmas.List.Elements.{All-get_or}
 use Rattle.plan.specs.Tasks.{max_tasks}
 use Rattle.precedence.specs.declared.pairs.Pair.{Pair}
-use Rattle.precedence.specs.Inner.{IsTasks}
+use Rattle.precedence.specs.Inner.{OfTasks}
 use Rattle.precedence.proofs.Naming.{one-more-named}
 use Rattle.precedence.proofs.masks.named_masks.Goals as goal
 
@@ -13,7 +13,7 @@ loop-pair-preserved c =
     let i = c.loop-pair.pair-index in
     let inside : i < length ps = omega arith in
     let none : Pair = record { predecessor = 0; successor = 0 } in
-    let tasks = All-get_or (IsTasks max_tasks) ps i none inside c.requires in
+    let tasks = All-get_or (OfTasks max_tasks) ps i none inside c.requires in
     let v = c.loop-pair.invariant in
     rw (take_more ps i none inside, c.from.ensures)
     (record {
