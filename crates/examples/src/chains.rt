@@ -58,25 +58,24 @@ impl Call {
         self.list.as_chunks::<2>().0
     }
 
-    // The first pair, counted from 1, that a test holds of, or 0.
-    fn first_pair<F: Fn(Pair) -> bool>(&self, test: F) -> u32
-        requires { F.IsAlwaysCallable test }
-    {
-        let mut number = 0u32;
-        for pair in self.pairs() {
-            number = number.saturating_add(1);
-            if test(*pair) {
-                return number;
-            }
-        }
-        0
+    fn has_task(&self, number: u8) -> bool {
+        (1..=self.tasks).contains(&number)
     }
 
-    // The refusal by the rules in their order, and then the first pair that is not in the order of the file.
+    // The refusal by the rules in their order, or else the first pair that is not in the order of the file.
     fn answer(&self) -> Result<u32, Fault> {
-        let outside = self.first_pair(|pair| pair
-            .iter()
-            .any(|task| *task == 0 || *task > self.tasks));
+        let (mut outside, mut misordered) = (0, 0);
+        let mut number = 0u32;
+        for [predecessor, successor] in self.pairs() {
+            number = number.saturating_add(1);
+            let inside = self.has_task(*predecessor) && self.has_task(*successor);
+            if outside == 0 && !inside {
+                outside = number;
+            }
+            if misordered == 0 && predecessor >= successor {
+                misordered = number;
+            }
+        }
         let (number, place) = if self.list.len() % 2 != 0 {
             (61, 0)
         } else if outside != 0 {
@@ -84,7 +83,7 @@ impl Call {
         } else if self.space != usize::from(self.tasks) {
             (40, 0)
         } else {
-            return Ok(self.first_pair(|[predecessor, successor]| predecessor >= successor));
+            return Ok(misordered);
         };
         Err(Fault { number, place })
     }
@@ -123,6 +122,17 @@ fn chains(pairs: &[Pair]) -> ArrayVec<Pair, 25> {
     all
 }
 
+// At how many tasks a chain to each task begins.
+fn count_ends(ends: &[Pair]) -> [u8; 6] {
+    let mut counts = [0u8; 6];
+    for [_, last] in ends {
+        if let Some(count) = counts.get_mut(usize::from(*last).wrapping_sub(1)) {
+            *count = count.saturating_add(1);
+        }
+    }
+    counts
+}
+
 // What FEEDERS was compared at: lists of pairs, refusals, tasks that precede themselves, and answers that differ.
 #[derive(Clone, Copy, Default)]
 pub(crate) struct Counts {
@@ -143,21 +153,26 @@ impl Counts {
         };
         let mut space = [7; 6];
         let counts = &mut space[..call.space.min(6)];
-        let answer = precedence::predecessors(file.bytes(), &call.list, counts);
-        let answer = answer.map(|pair| pair.unwrap_or(0)).map_err(Fault::from);
-        let mut is_same = answer == call.answer();
-        let all = chains(call.pairs());
-        for (i, count) in counts.iter().enumerate() {
-            let ending = all.iter().filter(|ends| usize::from(ends[1]) == i + 1);
-            is_same &= usize::from(*count) == if answer.is_ok() { ending.count() } else { 7 };
+        let answer = match precedence::predecessors(file.bytes(), &call.list, counts) {
+            Ok(pair) => Ok(pair.unwrap_or(0)),
+            Err(error) => Err(Fault::from(error)),
+        };
+        let ends = chains(call.pairs());
+        let mut by_chains = [7; 6];
+        if answer.is_ok() {
+            by_chains = count_ends(&ends);
+            self.count_own(&ends);
         }
-        let own = all.iter().filter(|[first, last]| first == last).count();
+        let is_same = answer == call.answer() && &*counts == &by_chains[..counts.len()];
         self.lists = self.lists.saturating_add(1);
         self.refused = self.refused.saturating_add(u64::from(answer.is_err()));
-        self.own = self
-            .own
-            .saturating_add(if answer.is_ok() { own as u64 } else { 0 });
         self.differences = self.differences.saturating_add(u64::from(!is_same));
+    }
+
+    fn count_own(&mut self, ends: &[Pair]) {
+        for [first, last] in ends {
+            self.own = self.own.saturating_add(u64::from(first == last));
+        }
     }
 }
 

@@ -1,7 +1,7 @@
-ghost use Rattle.std.specs.Prelude.{◌≤◌, IfOk, length};
+ghost use Rattle.std.specs.Prelude.{◌≤◌, IfSome, length};
 
 use std::env::{Env, FillError};
-use std::{fs, io, str};
+use std::{fs, str};
 
 // The longest name of a file that the system takes, with the byte that ends it.
 const MAX_NAME: usize = 4096;
@@ -11,13 +11,14 @@ pub(crate) fn is_given(rt: &HostRuntime, argument: usize) -> bool {
     !matches!(rt.arg(argument, &mut []), Err(FillError::NotPresent))
 }
 
-// Reads the file that an argument names until the buffer is full or the file ends; how many bytes came.
-pub(crate) fn read_named(rt: &HostRuntime, argument: usize, buffer: &mut [u8]) -> io::Result<usize>
-    ensures { IfOk result (λ size. size ≤ length buffer.new) }
+// Reads the file that an argument names until the buffer is full or the file ends; how many bytes came, or none where
+// it cannot be read.
+pub(crate) fn read_named(rt: &HostRuntime, argument: usize, buffer: &mut [u8]) -> Option<usize>
+    ensures { IfSome result (λ size. size ≤ length buffer.new) }
 {
     let mut name = [0; MAX_NAME];
-    let no_name = || io::Error::from(io::ErrorKind::InvalidInput);
-    let size = rt.arg(argument, &mut name).map_err(|_| no_name())?;
-    let path = str::from_utf8(&name[..size]).map_err(|_| no_name())?;
-    input::read_input(fs::open(rt, path)?, buffer)
+    let size = rt.arg(argument, &mut name).ok()?;
+    let path = str::from_utf8(&name[..size]).ok()?;
+    let file = fs::open(rt, path).ok()?;
+    input::read_input(file, buffer).ok()
 }

@@ -15,6 +15,7 @@ use text::list_predecessors;
 const LIST_SIZE: usize = MAX_LIST + 1;
 
 // What goes wrong; a file that cannot be read by its word in the usage.
+#[derive(Clone, Copy)]
 enum Failure {
     Usage,
     Reading(&'static str),
@@ -37,10 +38,10 @@ fn answer_arguments(rt: &HostRuntime) -> Result<(), Failure> {
     }
     let mut file = [0; INPUT_SIZE];
     let mut pairs = [0; LIST_SIZE];
-    let size = read_named(rt, 1, &mut file).map_err(|_| Failure::Reading("PLAN"))?;
-    let length = read_named(rt, 2, &mut pairs).map_err(|_| Failure::Reading("PAIRS"))?;
+    let size = read_named(rt, 1, &mut file).ok_or(Failure::Reading("PLAN"))?;
+    let length = read_named(rt, 2, &mut pairs).ok_or(Failure::Reading("PAIRS"))?;
     let text = list_predecessors(&file[..size], &pairs[..length]);
-    rt.stdout().write_all(&text).map_err(|_| Failure::Writing)
+    rt.stdout().write_all(&text).or(Err(Failure::Writing))
 }
 
 fn main(rt: HostRuntime) {
