@@ -5,6 +5,10 @@ use Rattle.std.specs.List.{All}
 use Rattle.precedence.specs.declared.pairs.Pair.{Pair}
 use Rattle.precedence.specs.Chains.{Named, Chain}
 
+-- a pair as two bytes
+abbrev pub pair_of : List ℕ → Pair
+pair_of chunk = record { predecessor = get_or chunk 0 0; successor = get_or chunk 1 0 }
+
 -- a pair is of two of the tasks 1 to n
 pub record OfTasks (n : ℕ) (p : Pair) : Type 0 where
   pub first : 1 ≤ p.predecessor

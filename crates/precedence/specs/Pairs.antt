@@ -30,11 +30,8 @@ first_pair test ps = let i = position_or_len test ps in cond (ltb i (length ps))
 abbrev pub is_outside : ℕ → Pair → Bool
 is_outside n p = not (between 1 p.predecessor n && between 1 p.successor n)
 
-abbrev pub first_outside : ℕ → List Pair → ℕ
-first_outside n ps = first_pair (is_outside n) ps
-
 abbrev pub pairs_fault : ℕ → List Pair → Fault
-pairs_fault n ps = fault_if (not (eqb (first_outside n ps) 0)) 62 (first_outside n ps)
+pairs_fault n ps = let at = first_pair (is_outside n) ps in fault_if (not (eqb at 0)) 62 at
 
 -- "the first pair, counted from 1, whose feeder does not stand above its reader in the table, or 0 if there is none"
 abbrev pub is_misordered : Pair → Bool

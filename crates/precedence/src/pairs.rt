@@ -1,8 +1,8 @@
-ghost use Rattle.std.specs.Prelude.{◌≡◌, ◌≤◌, IfOk, IfSome, length, unwrap_or};
+ghost use Rattle.std.specs.Prelude.{◌≡◌, ◌≤◌, IfOk, IfSome, length, map, unwrap_or};
 ghost use Rattle.plan.specs.Faults.{or_else};
 ghost use Rattle.precedence.specs.Pairs.{pairs_of, list_fault, is_outside, pairs_fault, max_pairs};
-ghost use Rattle.precedence.specs.Pairs.{first_outside, first_misordered};
-ghost use Rattle.precedence.specs.Inner.{AllOfTasks};
+ghost use Rattle.precedence.specs.Pairs.{first_misordered};
+ghost use Rattle.precedence.specs.Inner.{AllOfTasks, pair_of};
 ghost use Rattle.precedence.specs.Errors.{precedence_error};
 
 use super::errors::PrecedenceError;
@@ -31,47 +31,17 @@ impl Pair {
     }
 }
 
-// Rule 61: the pairs of a list.
-fn split_list(list: &[u8]) -> Result<ArrayVec<Pair, MAX_PAIRS>, PrecedenceError>
+// Rule 61: a list, two bytes a pair.
+fn split_list(list: &[u8]) -> Result<&[[u8; 2]], PrecedenceError>
     ensures refuses { precedence_error result ≡ list_fault list.now }
-    ensures reads { IfOk result (λ ps. ps.items ≡ pairs_of list.now) }
+    ensures splits { IfOk result (λ chunks. map pair_of chunks.now ≡ pairs_of list.now) }
+    ensures few { IfOk result (λ chunks. length chunks.now ≤ max_pairs) }
 {
     let (chunks, odd) = list.as_chunks::<2>();
     if !odd.is_empty() || chunks.len() > MAX_PAIRS {
         return Err(PrecedenceError::ListLength);
     }
-    let mut pairs = ArrayVec::new();
-    for &[predecessor, successor] in chunks {
-        pairs.push(Pair {
-            predecessor,
-            successor,
-        });
-    }
-    Ok(pairs)
-}
-
-// The first pair, counted from 1, that is not of two of so many tasks.
-fn first_outside(pairs: &[Pair], tasks: usize) -> Option<u32>
-    requires { length pairs.now ≤ max_pairs }
-    ensures is { unwrap_or result 0 ≡ first_outside tasks pairs.now }
-    ensures first { IfSome result (λ pair. 1 ≤ pair) }
-{
-    pairs
-        .iter()
-        .position(|pair| pair.is_outside(tasks))
-        .map(|i| (i + 1) as u32)
-}
-
-// The first pair, counted from 1, whose predecessor does not stand above its successor.
-pub(crate) fn first_misordered(pairs: &[Pair]) -> Option<u32>
-    requires { length pairs.now ≤ max_pairs }
-    ensures is { unwrap_or result 0 ≡ first_misordered pairs.now }
-    ensures first { IfSome result (λ pair. 1 ≤ pair) }
-{
-    pairs
-        .iter()
-        .position(|pair| pair.successor <= pair.predecessor)
-        .map(|i| (i + 1) as u32)
+    Ok(chunks)
 }
 
 // Rules 61 and 62: the pairs of a list, for so many tasks.
@@ -85,9 +55,28 @@ pub(crate) fn read_pairs(
     ensures tasks { IfOk result (λ ps. AllOfTasks tasks ps.items) }
     ensures few { IfOk result (λ ps. length ps.items ≤ max_pairs) }
 {
-    let pairs = split_list(list)?;
-    match first_outside(&pairs, tasks) {
-        Some(pair) => Err(PrecedenceError::NoSuchTask(pair)),
-        None => Ok(pairs),
+    let mut pairs = ArrayVec::new();
+    for &[predecessor, successor] in split_list(list)? {
+        let pair = Pair {
+            predecessor,
+            successor,
+        };
+        if pair.is_outside(tasks) {
+            return Err(PrecedenceError::NoSuchTask(pairs.len() as u32 + 1));
+        }
+        pairs.push(pair);
     }
+    Ok(pairs)
+}
+
+// The first pair, counted from 1, whose predecessor does not stand above its successor.
+pub(crate) fn first_misordered(pairs: &[Pair]) -> Option<u32>
+    requires { length pairs.now ≤ max_pairs }
+    ensures is { unwrap_or result 0 ≡ first_misordered pairs.now }
+    ensures first { IfSome result (λ pair. 1 ≤ pair) }
+{
+    pairs
+        .iter()
+        .position(|pair| pair.successor <= pair.predecessor)
+        .map(|i| (i + 1) as u32)
 }
