@@ -4,29 +4,16 @@ use mathlib.Core.Logic.{inl, inr}
 use mathlib.Core.List.{List, [], ◌∷◌, ◌++◌}
 use Prim.Native.Nat.{ℕ, suc, ◌-◌, ◌*◌, ◌%◌, ◌^◌, ◌<◌}
 use native.Mathlib.Omega.{arith}
-use lib.ListN.{length, get_or, get_or-eq_default, set, replicate, length-replicate}
+use lib.ListN.{length, get_or, set}
 use Rattle.std.specs.Prelude.{bit_or}
 use Rattle.std.specs.Int.{bit_at, w16}
-use Rattle.std.proofs.lemmas.List.{get_or-replicate, get_or-set_same, get_or-set_other}
+use Rattle.std.proofs.lemmas.List.{get_or-set_same, get_or-set_other}
 use Rattle.std.proofs.lemmas.List.Elements.{Contains-append_left, Contains-push, Contains-push_cases}
-use Rattle.std.proofs.lemmas.Nat.Bits.{bit_at-zero, bit_at_set_same, bit_at_set_other}
+use Rattle.std.proofs.lemmas.Nat.Bits.{bit_at_set_same, bit_at_set_other}
 use Rattle.plan.specs.Tasks.{max_tasks}
-use Rattle.plan.proofs.Tests.{le-or-lt, eq-or-ne}
+use Rattle.plan.proofs.Tests.{eq-or-ne}
 use Rattle.precedence.specs.declared.pairs.Pair.{Pair}
 use Rattle.precedence.specs.Inner.{OfTasks, bit_of, HasNamed}
-
--- the masks before any pair
-zero-at : (n i : ℕ) → ◌≡◌ {A = ℕ} (get_or (replicate n 0) i 0) 0
-zero-at n i = elim (le-or-lt n i) [
-  | inl h ↦ get_or-eq_default (replicate n 0) 0 {n = i} (omega (arith, length-replicate {A = ℕ} n 0))
-  | inr h ↦ get_or-replicate n i 0 0 h
-]
-
-pub none-named : HasNamed [] (replicate max_tasks 0)
-none-named i k = (
-  λ e. let z : ⊥ = omega (arith, ap (λ x. bit_at x k) (zero-at max_tasks i), bit_at-zero k) in absurd z,
-  λ n. let z : ⊥ = omega (arith, n.1) in absurd z,
-)
 
 -- the masks after one more pair
 module _ (ps : List Pair) (masks : List ℕ) (named : HasNamed ps masks) (p : Pair) (tasks : OfTasks max_tasks p)
