@@ -2,7 +2,8 @@
 //! versions and lists of pairs, sound and damaged, and holds what it prints byte for
 //! byte to model.rs. Run from the repository's root, where plans/ is; it writes its
 //! files to target/checks/. One seed always gives the same files. Exit status 0 when
-//! all agree and, in both versions, every number came and pairs of all kinds came often.
+//! all agree and, in both versions, every number came, and answers with every pair in
+//! order and with one upside down came often.
 
 // The other checks use the rest.
 #[allow(dead_code)]
@@ -13,7 +14,7 @@ mod plans;
 mod program;
 
 use plans::{damaged_file, layout, loaded_plan, name_all, random_plan, sound_file, Random};
-use program::{arguments, coverage, cuts, hex, lengths, sample_files, Parts, Program, Run};
+use program::{arguments, coverage, cut, cuts, hex, lengths, sample_files, Parts, Program, Run};
 use std::fs;
 use std::process::exit;
 
@@ -21,7 +22,7 @@ const PLAN: &str = "target/checks/feeders.plan";
 const PAIRS: &str = "target/checks/feeders.pairs";
 const LIST_MAX: usize = 240;
 
-/// Of answers with a job that feeds itself, and with none, at least so many are to come.
+/// Of answers with every pair in order, and with one upside down, at least so many are to come.
 const OFTEN: u64 = 300;
 
 // Comparison.
@@ -225,7 +226,7 @@ fn damaged_plans(comparison: &mut Comparison, random: &mut Random, count: u64) {
     }
 }
 
-/// Each job number as feeder and as reader, in a plan of n jobs.
+/// Job numbers about the limits, as feeder and as reader, in a plan of n jobs.
 fn numbers(comparison: &mut Comparison, random: &mut Random, n: usize) {
     let file = sound_plan(random, comparison.version, n);
     for number in [0, 1, n as u8, n as u8 + 1, 16, 17, 127, 128, 254, 255] {
@@ -256,11 +257,11 @@ fn in_parts(comparison: &mut Comparison, random: &mut Random) {
     let mut list = flat(&chain(random, 16, true));
     list.resize(LIST_MAX, 3);
     for at in [0, 1, 2, 3, 119, 238, 239, 240] {
-        comparison.list_in_parts(&file, vec![list[..at].to_vec(), list[at..].to_vec()]);
+        comparison.list_in_parts(&file, cut(&list, at));
     }
     list.push(3);
     for at in [1, 239, 240, 241] {
-        comparison.list_in_parts(&file, vec![list[..at].to_vec(), list[at..].to_vec()]);
+        comparison.list_in_parts(&file, cut(&list, at));
     }
     comparison.list_in_parts(&file, list[..24].iter().map(|&byte| vec![byte]).collect());
 }

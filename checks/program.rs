@@ -79,11 +79,11 @@ fn read_beside(child: &mut Child, parts: Parts) -> mpsc::Receiver<(Vec<u8>, Vec<
 }
 
 impl Program {
-    /// None when the program is not done in time; it is ended then.
     pub fn run(&self, parts: Parts) -> Option<Run> {
         self.run_with(&[], parts)
     }
 
+    /// None when the program is not done in time; it is ended then.
     pub fn run_with(&self, arguments: &[&str], parts: Parts) -> Option<Run> {
         let mut child = Command::new(&self.path)
             .args(arguments)

@@ -26,11 +26,15 @@ struct Call {
     space: usize,
 }
 
-// Whether a number of ten comes.
+// True for one of ten numbers.
 fn now_and_then(sequence: &Sequence, k: usize) -> bool
     requires { k < 36 }
 {
     sequence.draw(k, 0..=9) == 0
+}
+
+fn refused(number: u32, place: u32) -> Result<u32, Fault> {
+    Err(Fault { number, place })
 }
 
 impl Call {
@@ -62,7 +66,8 @@ impl Call {
         (1..=self.tasks).contains(&number)
     }
 
-    // The refusal by the rules in their order, or else the first pair that is not in the order of the file.
+    // The refusal by the rules in their order, or else the first pair that is not in the order of the file. No list is
+    // so long that 61 would refuse it for that.
     fn answer(&self) -> Result<u32, Fault> {
         let (mut outside, mut misordered) = (0, 0);
         let mut number = 0u32;
@@ -76,16 +81,16 @@ impl Call {
                 misordered = number;
             }
         }
-        let (number, place) = if self.list.len() % 2 != 0 {
-            (61, 0)
-        } else if outside != 0 {
-            (62, outside)
-        } else if self.space != usize::from(self.tasks) {
-            (40, 0)
-        } else {
-            return Ok(misordered);
-        };
-        Err(Fault { number, place })
+        if self.list.len() % 2 != 0 {
+            return refused(61, 0);
+        }
+        if outside != 0 {
+            return refused(62, outside);
+        }
+        if self.space != usize::from(self.tasks) {
+            return refused(40, 0);
+        }
+        Ok(misordered)
     }
 }
 
@@ -157,9 +162,9 @@ impl Counts {
             Ok(pair) => Ok(pair.unwrap_or(0)),
             Err(error) => Err(Fault::from(error)),
         };
-        let ends = chains(call.pairs());
         let mut by_chains = [7; 6];
         if answer.is_ok() {
+            let ends = chains(call.pairs());
             by_chains = count_ends(&ends);
             self.count_own(&ends);
         }

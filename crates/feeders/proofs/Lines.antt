@@ -8,6 +8,6 @@ use Rattle.plan.specs.Files.{name_of}
 use Rattle.listing.specs.Text.{line, decimal}
 use Rattle.feeders.specs.Text.{count_lines}
 
-pub line-more : (s cs : List ℕ) (i : ℕ) {name : List ℕ} {count : ℕ} → name ≡ name_of s (i + 1) → count ≡ get_or cs i 0
+pub count-more : (s cs : List ℕ) (i : ℕ) {name : List ℕ} {count : ℕ} → name ≡ name_of s (i + 1) → count ≡ get_or cs i 0
     → count_lines s cs i ++ line (name ∷ decimal count ∷ []) ≡ count_lines s cs (i + 1)
-line-more s cs i n c = rw (add-one, n, c) refl
+count-more s cs i n c = rw (add-one, n, c) refl

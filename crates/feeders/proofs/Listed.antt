@@ -51,16 +51,16 @@ module _ {s : List ℕ} {plan : Plan} (l : Loads s plan) {n : ℕ} (sized : n �
     zeros : take n (replicate max_tasks 0) ≡ replicate {A = ℕ} (length (plan_tasks plan)) 0
     zeros = rw sized (take-replicate (length (plan_tasks plan)) max_tasks 0 plan.few)
 
-    counted : let n = length (tasks_of s) in
+    on-file : let n = length (tasks_of s) in
         CountsPredecessors (file_fault s) n list (replicate n 0) o' (precedence_answer r)
-    counted = rw (accepted-none s l.accepts, ← l.tasks) (rw zeros at p)
+    on-file = rw (accepted-none s l.accepts, ← l.tasks) (rw zeros at p)
 
     pub refused : (e : PrecedenceError) → r ≡ Err e → Lists s list (line (refusal_fields (precedence_error_fault e)))
     refused e is =
-        let z = ne_eqb (precedence_error_fault e).number 0 (λ n. omega (arith, some-number e)) in
-        record { counts = o'; answer = precedence_answer (Err e); counted = rw is at counted; prints = rw z refl }
+        let z = ne_eqb (precedence_error_fault e).number 0 (λ e0. omega (arith, some-number e)) in
+        record { counts = o'; answer = precedence_answer (Err e); counted = rw is at on-file; prints = rw z refl }
 
     pub listed : (pair : Option ℕ) → r ≡ Ok pair → {text : List ℕ}
         → text ≡ count_lines s o' (length o') ++ line (pair_word ∷ decimal (unwrap_or pair 0) ∷ []) → Lists s list text
     listed pair is t =
-        record { counts = o'; answer = precedence_answer (Ok pair); counted = rw is at counted; prints = t }
+        record { counts = o'; answer = precedence_answer (Ok pair); counted = rw is at on-file; prints = t }

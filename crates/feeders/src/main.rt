@@ -14,7 +14,7 @@ use text::list_predecessors;
 // One byte more than a list of pairs may have, so that a longer one is refused for its length.
 const LIST_SIZE: usize = MAX_LIST + 1;
 
-// What goes wrong; a file that cannot be read by its word in the usage.
+// What goes wrong; a file that cannot be read is told by its word in the usage.
 #[derive(Clone, Copy)]
 enum Failure {
     Usage,

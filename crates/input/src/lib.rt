@@ -1,7 +1,7 @@
 #![tactic(auto)]
 
 // What the programs share.
-mod reading; // reading.rt: what a program is given on standard input
+mod reading; // reading.rt: the reading of an input
 mod program; // program.rt: a program over one plan file
 
 pub use program::run;

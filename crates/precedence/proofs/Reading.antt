@@ -58,11 +58,11 @@ not-outside n p t =
     ) refl
 
 -- the first i pairs of a list read, all of tasks
-pub record Read (n : ℕ) (ps : List Pair) (i : ℕ) (items : List Pair) : Type 0 where
+pub record FirstRead (n : ℕ) (ps : List Pair) (i : ℕ) (items : List Pair) : Type 0 where
   pub are : items ≡ take i ps
   pub inside : AllOfTasks n items
 
-module _ {n i : ℕ} {ps items : List Pair} (v : Read n ps i items) (within : i ≤ length ps) where
+module _ {n i : ℕ} {ps items : List Pair} (v : FirstRead n ps i items) (within : i ≤ length ps) where
   before : (k : ℕ) → k < i → is_outside n (get_or ps k no_pair) ≡ false
   before k h =
       let room : k < length items = rw v.are (omega (arith, length-take-le i ps within)) in
@@ -76,7 +76,7 @@ module _ {n i : ℕ} {ps items : List Pair} (v : Read n ps i items) (within : i 
       rw (at, le-ltb i (length ps) h) refl
 
   module _ {p : Pair} (next : p ≡ get_or ps i no_pair) (h : i < length ps) where
-    pub one-more-read : is_outside n p ≡ false → Read n ps (i + 1) (items ++ p ∷ [])
+    pub one-more-read : is_outside n p ≡ false → FirstRead n ps (i + 1) (items ++ p ∷ [])
     one-more-read e = record {
       are = rw (take_more ps i no_pair h, v.are, next);
       inside = All-push (OfTasks n) items p v.inside (inside-of n p e);

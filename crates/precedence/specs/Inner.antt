@@ -1,9 +1,13 @@
--- What inner functions promise each other. Tasks are counted from 0 here, as the bits of a mask are.
+-- What inner functions promise each other. Tasks are counted from 1 in pairs and from 0 in masks.
 use Rattle.std.specs.Prelude.{◌≡◌, ◌↔◌, cond, List, map, ℕ, suc, ◌≤◌, eqb, get_or, bit_or}
 use Rattle.std.specs.Int.{bit_at}
 use Rattle.std.specs.List.{All}
 use Rattle.precedence.specs.declared.pairs.Pair.{Pair}
 use Rattle.precedence.specs.Chains.{Named, Chain}
+
+-- the most pairs of a list
+abbrev pub max_pairs : ℕ
+max_pairs = 120
 
 -- a pair as two bytes
 abbrev pub pair_of : List ℕ → Pair

@@ -1,4 +1,4 @@
--- The list of pairs, its refusals 61 and 62, and the order that it asks for (docs/FORMAT.md, "Pairs").
+-- The list of pairs, its refusals 61 and 62, and the order that it asks for (docs/FORMAT.md, "Who feeds whom").
 use Rattle.std.specs.Prelude.{Bool, ◌||◌, ◌&&◌, not, cond, List, [], ◌∷◌, ℕ, suc, ◌%◌, eqb, ltb, leb, length}
 use Rattle.std.specs.List.{position_or_len}
 use Rattle.plan.specs.declared.faults.Fault.{Fault}
@@ -15,9 +15,6 @@ pairs_of (k ∷ i ∷ rest) = record { predecessor = k; successor = i } ∷ pair
 -- "61, the list's length is odd or above 240 bytes, place 0"
 abbrev pub max_list : ℕ
 max_list = 240
-
-abbrev pub max_pairs : ℕ
-max_pairs = 120
 
 abbrev pub list_fault : List ℕ → Fault
 list_fault list = fault_if (not (eqb (length list % 2) 0) || ltb max_list (length list)) 61 0

@@ -1,7 +1,7 @@
 use plan::{Fault, ReadError};
 
-// Why FEEDERS refuses a call: its file, the length of the list or of the space, or the first pair, counted from 1, that
-// names no task.
+// Why FEEDERS refuses a call: its file, the length of the list or of the space, or the first pair, counted from 1, with
+// a number of no task.
 #[derive(Clone, Copy, Debug, PartialEq, Eq)]
 pub enum PrecedenceError {
     Read(ReadError),

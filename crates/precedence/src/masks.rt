@@ -27,7 +27,7 @@ fn join_through(masks: &mut Masks, task: usize)
 {
     let own = masks[task];
     for mask in masks.iter_mut() {
-        if *mask >> task & 1 == 1 {
+        if (*mask >> task) & 1 == 1 {
             *mask |= own;
         }
     }

@@ -1,8 +1,8 @@
 ghost use Rattle.std.specs.Prelude.{◌≡◌, ◌≤◌, IfOk, IfSome, length, map, unwrap_or};
 ghost use Rattle.plan.specs.Faults.{or_else};
-ghost use Rattle.precedence.specs.Pairs.{pairs_of, list_fault, is_outside, pairs_fault, max_pairs};
+ghost use Rattle.precedence.specs.Pairs.{pairs_of, list_fault, is_outside, pairs_fault};
 ghost use Rattle.precedence.specs.Pairs.{first_misordered};
-ghost use Rattle.precedence.specs.Inner.{AllOfTasks, pair_of};
+ghost use Rattle.precedence.specs.Inner.{max_pairs, pair_of, AllOfTasks};
 ghost use Rattle.precedence.specs.Errors.{precedence_error};
 
 use super::errors::PrecedenceError;
@@ -21,7 +21,7 @@ pub(crate) struct Pair {
 }
 
 impl Pair {
-    // Whether it is not of two of so many tasks.
+    // Whether one of its numbers is none of so many tasks.
     fn is_outside(&self, tasks: usize) -> bool
         ensures { result ≡ is_outside tasks self.now }
     {

@@ -1,6 +1,6 @@
 use Rattle.std.proofs.Common.{arith, append_assoc, ◌∙◌}
 use Rattle.listing.proofs.TaskLines.{name-le}
-use Rattle.feeders.proofs.Lines.{line-more}
+use Rattle.feeders.proofs.Lines.{count-more}
 use Rattle.feeders.proofs.text.put_counts.Goals as goal
 
 pub put_labelled-requires : goal.put_labelled-requires
@@ -11,7 +11,7 @@ put_labelled-requires c =
 pub loop-i-preserved : goal.loop-i-preserved
 loop-i-preserved c =
     let s = c.args.file.now.located.file.now in
-    let more = line-more s c.args.counts.now c.loop-i.i c.name.ensures.bytes c.from.ensures in
+    let more = count-more s c.args.counts.now c.loop-i.i c.name.ensures.bytes c.from.ensures in
     record {
       puts = c.put_labelled.ensures.puts ∙ rw (c.loop-i.invariant.puts, ← more, append_assoc);
       few = omega (arith, name-le c.name.ensures);
