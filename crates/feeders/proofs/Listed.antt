@@ -18,7 +18,7 @@ use Rattle.plan.specs.Promises.{plan_tasks, Loads}
 use Rattle.plan.proofs.Accepted.{accepted-none}
 use Rattle.plan.proofs.Numbers.{read-error-numbers}
 use Rattle.precedence.specs.declared.errors.PrecedenceError.{PrecedenceError}
-use Rattle.precedence.proofs.Numbers.{some-number}
+use Rattle.precedence.proofs.Numbers.{precedence-error-number}
 use Rattle.precedence.specs.Errors.{precedence_error_fault}
 use Rattle.precedence.specs.Promises.{CountsPredecessors, precedence_answer}
 use Rattle.listing.specs.Text.{line, decimal, refusal_fields}
@@ -57,7 +57,7 @@ module _ {s : List ℕ} {plan : Plan} (l : Loads s plan) {n : ℕ} (sized : n �
 
     pub refused : (e : PrecedenceError) → r ≡ Err e → Lists s list (line (refusal_fields (precedence_error_fault e)))
     refused e is =
-        let z = ne_eqb (precedence_error_fault e).number 0 (λ e0. omega (arith, some-number e)) in
+        let z = ne_eqb (precedence_error_fault e).number 0 (λ e0. omega (arith, precedence-error-number e)) in
         record { counts = o'; answer = precedence_answer (Err e); counted = rw is at on-file; prints = rw z refl }
 
     pub listed : (pair : Option ℕ) → r ≡ Ok pair → {text : List ℕ}

@@ -23,4 +23,5 @@ pub record Lists (s list text : List ℕ) : Type 0 where
   pub counts : List ℕ
   pub answer : PrecedenceAnswer
   pub counted : let n = length (tasks_of s) in CountsPredecessors (file_fault s) n list (replicate n 0) counts answer
-  pub prints : text ≡ cond (passed answer.fault) (answer_text s counts answer.pair) (line (refusal_fields answer.fault))
+  pub prints : text
+      ≡ cond (passed answer.fault) (answer_text s counts answer.pair) (line (refusal_fields answer.fault))

@@ -1,5 +1,5 @@
 -- Laws of predecessors, by subject.
-pub mod Numbers  -- the numbers of its refusals
+pub mod Numbers  -- refusals as numbers
 mod Reading  -- from the bytes of a list to its pairs
 mod Bits  -- a mask's bits, one by one and counted
 mod Naming  -- the masks of the tasks that pairs name

@@ -1,7 +1,6 @@
 ghost use Rattle.std.specs.Prelude.{◌≡◌, ◌≤◌, IfOk, IfSome, length, map, unwrap_or};
 ghost use Rattle.plan.specs.Faults.{or_else};
-ghost use Rattle.precedence.specs.Pairs.{pairs_of, list_fault, is_outside, pairs_fault};
-ghost use Rattle.precedence.specs.Pairs.{first_misordered};
+ghost use Rattle.precedence.specs.Pairs.{pairs_of, list_fault, is_outside, pairs_fault, first_misordered};
 ghost use Rattle.precedence.specs.Inner.{max_pairs, pair_of, AllOfTasks};
 ghost use Rattle.precedence.specs.Errors.{precedence_error};
 
