@@ -1,9 +1,9 @@
--- Where the climb of a task may begin, by the response time of a task above it.
+-- Where the climb of a task may begin, by the busy period of a task above it.
 use mathlib.Core.Path.{◌≡◌}
 use mathlib.Core.Bool.{false}
 use mathlib.Core.Logic.{inl, inr}
 use mathlib.Core.List.{List}
-use Prim.Native.Nat.{ℕ, suc, ◌-◌, ◌≤◌, ◌<◌}
+use Prim.Native.Nat.{ℕ, suc, ◌+◌, ◌-◌, ◌≤◌, ◌<◌}
 use native.Mathlib.Omega.{arith}
 use lib.Dec.{eqb}
 use lib.ListN.{length, get_or}
@@ -19,7 +19,7 @@ use Rattle.boundary.specs.Inner.{begin_at, begin_below}
 
 module _ {ts : List Task} (v : AllValid ts) (x : List ℕ) (p : (k : ℕ) → k < length ts → 1 ≤ get_or x k 0) where
   -- any task above
-  pub begins-under : {j i : ℕ} → j < i → i < length ts → {limit most r : ℕ} → r ≤ limit → Begins limit ts x j r
+  pub begins-under : {j i : ℕ} → j < i → i < length ts → {limit most r : ℕ} → r + (task_at ts j).jitter ≤ limit → Begins limit ts x j r
       → Begins most ts x i (begin_below (task_at ts i) (task_at ts j) r)
   begins-under {j} {i} l h e b =
       let own = own_demand (task_at ts i) in
@@ -31,7 +31,7 @@ module _ {ts : List Task} (v : AllValid ts) (x : List ℕ) (p : (k : ℕ) → k 
       ]
 
   -- the one right above
-  pub begins-next : {i : ℕ} → suc i < length ts → {limit most r : ℕ} → r ≤ limit → Begins limit ts x i r
+  pub begins-next : {i : ℕ} → suc i < length ts → {limit most r : ℕ} → r + (task_at ts i).jitter ≤ limit → Begins limit ts x i r
       → Begins most ts x (suc i) (begin_at ts (suc i) r)
   begins-next {i} h e b =
       let later : eqb (suc i) 0 ≡ false = ne_eqb (suc i) 0 (λ z. omega arith) in

@@ -16,10 +16,10 @@ use Rattle.plan.proofs.Valid.{valid-at}
 use Rattle.response.specs.Analysis.{own_demand, deadline_at, schedulable, max_response}
 use Rattle.response.specs.Assignments.{cost}
 use Rattle.response.specs.Claims.{Covers}
-use Rattle.response.specs.Inner.{Limits, Begins, response_in_time}
+use Rattle.response.specs.Inner.{Limits, Begins, busy_in_time}
 use Rattle.response.proofs.Dominance.{AtMost, at-least-set, set-mono}
 use Rattle.response.proofs.Bounds.{Within, within-true, true-within, within-set, maxs-within}
-use Rattle.response.proofs.Exactness.{own-some, own-begins, response-early}
+use Rattle.response.proofs.Exactness.{own-some, own-begins, busy-early}
 use Rattle.response.proofs.Ranges.{ranged, weight-at, light, some-within, limits-within, sustainable-within}
 use Rattle.response.proofs.Order.{cost-mono, cost-longer, cost-most}
 use Rattle.response.proofs.Demand.{demand-same}
@@ -29,7 +29,7 @@ use Rattle.boundary.specs.Lowering.{lowered_from, lowered, lowering_from, loweri
 use Rattle.boundary.specs.Misses.{Moved, LastMiss, BeginsAt, SeeksFrom}
 use Rattle.boundary.specs.Inner.{LowersNode, LowersUpTo, Lowers, begin_at}
 use Rattle.boundary.proofs.Beginning.{begins-next}
-use Rattle.boundary.proofs.OnePeriod.{response-begins}
+use Rattle.boundary.proofs.OnePeriod.{busy-begins}
 
 -- a schedulable assignment within the bounds, at least the node
 pub record Meets (ts : List Task) (test : List ℕ → Bool) (node x : List ℕ) : Type 0 where
@@ -115,7 +115,7 @@ pub lowering-node-is : (ts : List Task) (node : List ℕ)
 unfolding lowering
 lowering-node-is ts node = refl
 
--- as the code lowers the periods x of the tasks from task i on; own is the response time of the task above, and the climbs of the
+-- as the code lowers the periods x of the tasks from task i on; own is the busy period of the task above, and the climbs of the
 -- lowest may begin at start; fixed has the periods that are lowered and the node's from task i on
 pub record Lowering (ts : List Task) (node goal : List ℕ) (i : ℕ) (x : List ℕ) (total own start : ℕ) : Type 0 where
   pub valid : AllValid ts
@@ -214,15 +214,15 @@ module _ {ts : List Task} {node : List ℕ} where
       here : i < length g.fixed
       here = omega (arith, i-inside, g.long)
 
-      pub lowering-responds : 1 ≤ response_in_time ts x i
+      pub lowering-responds : 1 ≤ busy_in_time ts x i
       lowering-responds = (meets-covers ts i (g.valid i i-inside) x (schedulable-all ts x g.meets.met i i-inside)).some
 
-      module _ {r : ℕ} (is : r ≡ response_in_time ts x i) where
+      module _ {r : ℕ} (is : r ≡ busy_in_time ts x i) where
         some : 1 ≤ r
         some = rw is lowering-responds
 
-        early : r ≤ deadline_at ts x i
-        early = rw is (response-early (deadline_at ts x i) ts x i i-works)
+        early : r + (task_at ts i).jitter ≤ deadline_at ts x i
+        early = rw is (busy-early (deadline_at ts x i) ts x i i-works lowering-responds)
 
         pub lowering-seeks : SeeksFrom ts x i r (get_or node i 0 - 1) (get_or x i 0) start
         lowering-seeks = record {
@@ -305,7 +305,7 @@ module _ {ts : List Task} {node : List ℕ} where
             where
               own-least : (t : ℕ) → Covers (deadline_at ts x i) ts (set x i (suc v)) i t → r ≤ t
               own-least t c =
-                  (response-begins (deadline_at ts x i) ts x i i-works is some).below t (record {
+                  (busy-begins (deadline_at ts x i) ts x i i-works is some).below t (record {
                     some = c.some;
                     early = c.early;
                     covers = omega (

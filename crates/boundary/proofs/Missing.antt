@@ -13,18 +13,18 @@ use borrow.Author.Tests.{lt-leb, le-leb, leb-true}
 use Rattle.plan.specs.declared.tasks.Task.{Task}
 use Rattle.plan.specs.Tasks.{max_ticks, task_at, Valid}
 use Rattle.plan.proofs.Tests.{le-or-lt, eq-or-ne, and_left, and_right}
-use Rattle.response.specs.Analysis.{own_demand, deadline_at, response_up_to, meets, max_response}
+use Rattle.response.specs.Analysis.{own_demand, deadline_at, busy_up_to, meets, max_response}
 use Rattle.response.specs.Claims.{Covers}
-use Rattle.response.specs.Inner.{Limits, Climbs, response_in_time}
+use Rattle.response.specs.Inner.{Limits, Climbs, busy_in_time}
 use Rattle.response.proofs.Limits.{limits-set}
-use Rattle.response.proofs.Exactness.{own-some, own-begins, response-early}
+use Rattle.response.proofs.Exactness.{own-some, own-begins, busy-early}
 use Rattle.response.proofs.Slack.{misses-none}
 use Rattle.response.proofs.Sustainable.{covers-above, covers-meets, schedulable-none}
 use Rattle.boundary.specs.Misses.{Range, Moved, LastMiss, BeginsAt, settles, Responds, Seeks, SeeksBelow, SeeksFrom}
 use Rattle.boundary.specs.Inner.{begin_below}
 use Rattle.boundary.proofs.Beginning.{begins-under}
 use Rattle.boundary.proofs.OnePeriod.{alike, alike-le, alike-releases, alike-more, deadline-other, own_meets}
-use Rattle.boundary.proofs.OnePeriod.{released-covers, released-begins, shorter-begins, response-begins}
+use Rattle.boundary.proofs.OnePeriod.{released-covers, released-begins, shorter-begins, busy-begins}
 
 -- changes of period i
 module _ {ts : List Task} {i : ℕ} where
@@ -48,7 +48,7 @@ module _ {ts : List Task} {i : ℕ} where
         sym (deadline-other ts u' i j 0 n) ∙ ap (λ x. deadline_at ts x j) (m.only 0) ∙ deadline-other ts u i j 0 n
 
     moved-settles : (j own r : ℕ) → (j ≡ i → ⊥) → settles (task_at ts j) (get_or u' j 0) own r ≡ settles (task_at ts j) (get_or u j 0) own r
-    moved-settles j own r n = ap (λ d. leb r d && leb (task_at ts j).blocking own) (moved-deadline j n)
+    moved-settles j own r n = ap (λ d. leb r (d - (task_at ts j).jitter) && leb (task_at ts j).blocking own) (moved-deadline j n)
 
     range_moved : {low most v : ℕ} → Range ts u i low most → v ≤ most → Range ts u' i v most
     range_moved r h = record {
@@ -90,9 +90,9 @@ pub record Probes (ts : List Task) (u : List ℕ) (i k low most limit : ℕ) : T
   pub inside : k < length u
   pub limited : limit ≡ deadline_at ts u k
 
--- the last found, one from which on task k is done by a response time, where its climbs right past the last may begin,
+-- the last found, one from which on a busy period of task k covers, where its climbs right past the last may begin,
 -- and where those between the two may
-pub record Probing (ts : List Task) (u : List ℕ) (i k low most limit : ℕ) (u' : List ℕ) (last high response begin turn : ℕ) : Type 0 where
+pub record Probing (ts : List Task) (u : List ℕ) (i k low most limit : ℕ) (u' : List ℕ) (last high busy begin turn : ℕ) : Type 0 where
   pub given : Probes ts u i k low most limit
   pub moved : Moved ts i u u'
   pub above : low ≤ last
@@ -100,8 +100,8 @@ pub record Probing (ts : List Task) (u : List ℕ) (i k low most limit : ℕ) (u
   pub under : high ≤ most + 1
   pub turns : turn + (high - last) ≤ most + 1
   pub misses : low < last → meets ts (set u i last) k ≡ false
-  pub covers : (y : ℕ) → high ≤ y → y ≤ most → Covers (deadline_at ts (set u i y) k) ts (set u i y) k response
-  pub begins : (y : ℕ) → last < y → y ≤ most → y ≤ max high (suc last) → BeginsAt ts u i y k response
+  pub covers : (y : ℕ) → high ≤ y → y ≤ most → Covers (deadline_at ts (set u i y) k) ts (set u i y) k busy
+  pub begins : (y : ℕ) → last < y → y ≤ most → y ≤ max high (suc last) → BeginsAt ts u i y k busy
   pub between : (y : ℕ) → last < y → y < high → BeginsAt ts u i y k begin
 
 module _ {ts : List Task} {u : List ℕ} {i k low most : ℕ} where
@@ -139,8 +139,8 @@ module _ {ts : List Task} {u : List ℕ} {i k low most : ℕ} where
       between = λ y c d. shorter b y (omega arith) (omega arith) (omega arith);
     }
 
-  module _ {limit : ℕ} {u' : List ℕ} {last high response begin turn : ℕ}
-      (g : Probing ts u i k low most limit u' last high response begin turn) where
+  module _ {limit : ℕ} {u' : List ℕ} {last high busy begin turn : ℕ}
+      (g : Probing ts u i k low most limit u' last high busy begin turn) where
     abbrev q : Probes ts u i k low most limit
     q = g.given
 
@@ -152,16 +152,17 @@ module _ {ts : List Task} {u : List ℕ} {i k low most : ℕ} where
       past = λ j a b y c d. let z : j ≡ k = omega arith in rw z (covers-meets ts k (valid-k q) (set u i y) (g.covers y (omega arith) d));
     }
 
-    pub probing-responds : high ≤ last + 1 → Responds ts u i k most last response
+    pub probing-responds : high ≤ last + 1 → Responds ts u i k most last busy
     probing-responds e = record {
       begins = λ l. g.begins (suc last) (omega arith) (omega arith) (omega arith);
       meet = λ j a b h y c d.
           let own = own_demand (task_at ts k) in
-          let early = leb response (deadline_at ts u j) in
+          let early = leb busy (deadline_at ts u j - (task_at ts j).jitter) in
           let light = leb (task_at ts j).blocking own in
           covers-meets ts j (q.range.limits.valid j (omega (arith, k-inside q))) (set u i y)
           (covers-above ts (set u i y) j k b (some-set q y (omega arith) d) (leb-true _ own (and_right early light h))
-          (rw (deadline-other ts u i j y (λ z. omega arith)) (leb-true response _ (and_left early light h))) (g.covers y (omega arith) d));
+          (rw (deadline-other ts u i j y (λ z. omega arith)) (omega (arith, leb-true busy _ (and_left early light h), (g.covers y (omega arith) d).some)))
+          (g.covers y (omega arith) d));
     }
 
     module _ {p : ℕ} (a : (last < p) × (p < high)) where
@@ -181,17 +182,16 @@ module _ {ts : List Task} {u : List ℕ} {i k low most : ℕ} where
         begins = rw (g.moved.only p, fixed) (g.between p a.0 a.1);
       }
 
-      module _ {r : ℕ} (is : r ≡ response_up_to limit ts (set u' i p) k) where
-        response-is : r ≡ response_in_time ts (set u i p) k
-        response-is = rw (g.moved.only p, fixed) at is
+      module _ {r : ℕ} (is : r ≡ busy_up_to limit ts (set u' i p) k) where
+        busy-is : r ≡ busy_in_time ts (set u i p) k
+        busy-is = rw (g.moved.only p, fixed) at is
 
-        pub probing-small : r + (task_at ts i).wcet ≤ max_ticks + max_ticks
-        probing-small =
-            let valid = q.range.limits.valid i (omega (arith, q.range.inside, q.range.limits.sized)) in
-            let early = response-early limit ts (set u' i p) k (works q) in
-            omega (arith, is, early, q.limited, q.range.limits.most k, valid.wcet_most)
+        pub probing-small : 1 ≤ r → r ≤ max_ticks
+        probing-small s =
+            let early = busy-early limit ts (set u' i p) k (works q) (omega (arith, is)) in
+            omega (arith, is, early, q.limited, q.range.limits.most k)
 
-        pub probing-miss : r ≡ 0 → Probing ts u i k low most limit (set u' i p) p high response begin (turn + 1)
+        pub probing-miss : r ≡ 0 → Probing ts u i k low most limit (set u' i p) p high busy begin (turn + 1)
         probing-miss e = record {
           given = q;
           moved = probing-moved;
@@ -199,17 +199,19 @@ module _ {ts : List Task} {u : List ℕ} {i k low most : ℕ} where
           upto = omega (arith, g.under);
           under = g.under;
           turns = omega (arith, g.turns);
-          misses = λ l. misses-none ts (set u i p) k (valid-k q) (omega (arith, response-is));
+          misses = λ l. misses-none ts (set u i p) k (valid-k q) (omega (arith, busy-is));
           covers = g.covers;
           begins = λ y c d h. g.begins y (omega arith) d (omega arith);
           between = λ y c d. g.between y (omega arith) d;
         }
 
         pub probing-meet : 1 ≤ r
-            → Probing ts u i k low most limit (set u' i p) last (alike r p) r (r + (task_at ts i).wcet) (turn + 1)
+            → Probing ts u i k low most limit (set u' i p) last (alike (r + (task_at ts i).jitter) p) r (r + (task_at ts i).wcet) (turn + 1)
         probing-meet s =
-            let l = alike-le r p s (omega arith) in
-            let at = response-begins _ ts (set u i p) k (works q) response-is s in record {
+            let window = r + (task_at ts i).jitter in
+            let some : 1 ≤ window = omega arith in
+            let l = alike-le window p some (omega arith) in
+            let at = busy-begins _ ts (set u i p) k (works q) busy-is s in record {
               given = q;
               moved = probing-moved;
               above = g.above;
@@ -218,28 +220,29 @@ module _ {ts : List Task} {u : List ℕ} {i k low most : ℕ} where
               turns = omega (arith, g.turns);
               misses = g.misses;
               covers = λ y c d.
-                  released-covers ts u i q.range.inside k q.below (works q) p response-is s y
-                  (alike-releases r p s (omega arith) y c);
+                  released-covers ts u i q.range.inside k q.below (works q) p busy-is s y
+                  (alike-releases window p some (omega arith) y c);
               begins = λ y c d h. shorter q at y (omega arith) d (omega arith);
               between = λ y c d.
-                  released-begins ts u i q.range.inside k q.below (works q) p response-is s y
-                  (shorter q at y (omega arith) (omega (arith, g.under)) (omega arith)) (alike-more r p s (omega arith) y (omega arith) d);
+                  released-begins ts u i q.range.inside k q.below (works q) p busy-is s y
+                  (shorter q at y (omega arith) (omega (arith, g.under)) (omega arith))
+                  (alike-more window p some (omega arith) y (omega arith) d);
             }
 
 -- the same of the tasks between task i and task k, from the lowest up: those from task j on are done, and so is every other that the
--- response time of a task with such an own demand settles
-pub record Between (ts : List Task) (u : List ℕ) (i k low most : ℕ) (u' : List ℕ) (last response own j : ℕ) : Type 0 where
+-- busy period of a task with such an own demand settles
+pub record Between (ts : List Task) (u : List ℕ) (i k low most : ℕ) (u' : List ℕ) (last busy own j : ℕ) : Type 0 where
   pub range : Range ts u i low most
   pub inside : k < length u
   pub above : i < j
   pub below : j ≤ k
   pub is : LastMiss ts u i j k low most last
-  pub meet : (m : ℕ) → i < m → m < j → settles (task_at ts m) (get_or u m 0) own response ≡ true
+  pub meet : (m : ℕ) → i < m → m < j → settles (task_at ts m) (get_or u m 0) own busy ≡ true
       → (y : ℕ) → last < y → y ≤ most → meets ts (set u i y) m ≡ true
   pub moved : Moved ts i u u'
 
 module _ {ts : List Task} {u : List ℕ} {i k low most : ℕ} where
-  module _ {u' : List ℕ} {last response own j : ℕ} (g : Between ts u i k low most u' last response own j) (h : suc i < j) where
+  module _ {u' : List ℕ} {last busy own j : ℕ} (g : Between ts u i k low most u' last busy own j) (h : suc i < j) where
     between-inside : j - 1 < length u'
     between-inside = omega (arith, g.below, g.inside, moved_length g.range.limits g.moved)
 
@@ -282,7 +285,7 @@ begins-past {ts} {u} {i} r b v h =
     (λ j l. (limits-set r.limits i (suc v) (omega arith) (omega (arith, r.ticks))).some j
     (omega (arith, length-set u i (suc v)))) h b
 
--- the same of task i, too: it meets its deadline from its response time on
+-- the same of task i, too: it meets its deadline from its busy period and its jitter on
 module _ {ts : List Task} {u : List ℕ} {i own low most start : ℕ} (q : SeeksFrom ts u i own low most start) where
   i-inside : i < length ts
   i-inside = omega (arith, q.range.inside, q.range.limits.sized)
@@ -290,11 +293,17 @@ module _ {ts : List Task} {u : List ℕ} {i own low most start : ℕ} (q : Seeks
   i-works : 1 ≤ own_demand (task_at ts i)
   i-works = own-some ts q.range.limits.valid i i-inside
 
-  own-early : own ≤ deadline_at ts (set u i most) i
-  own-early = rw q.is (response-early (deadline_at ts (set u i most) i) ts (set u i most) i i-works)
+  abbrev jitter : ℕ
+  jitter = (task_at ts i).jitter
 
-  own-most : own ≤ most
+  own-early : own + jitter ≤ deadline_at ts (set u i most) i
+  own-early = rw q.is (busy-early (deadline_at ts (set u i most) i) ts (set u i most) i i-works (rw q.is at q.works))
+
+  own-most : own + jitter ≤ most
   own-most = omega (arith, own-early, get_or-set_same u i most 0 q.range.inside)
+
+  pub from-small : own + (task_at ts i).jitter ≤ max_ticks
+  from-small = omega (arith, own-most, q.range.ticks)
 
   pub from-begins : i < length u - 1 → Valid (task_at ts (length u - 1)) × (own ≤ max_response)
   from-begins h = (q.range.limits.valid (length u - 1) (omega (arith, q.range.limits.sized)), omega (arith, own-most, q.range.ticks))
@@ -305,9 +314,9 @@ module _ {ts : List Task} {u : List ℕ} {i own low most start : ℕ} (q : Seeks
       let most-set = limits-set q.range.limits i most (omega (arith, own-most, q.works)) q.range.ticks in
       begins-under q.range.limits.valid (set u i most) (λ k c. most-set.some k (omega (arith, most-set.sized)))
       h (omega (arith, q.range.limits.sized)) own-early
-      (response-begins (deadline_at ts (set u i most) i) ts (set u i most) i i-works q.is q.works)
+      (busy-begins (deadline_at ts (set u i most) i) ts (set u i most) i i-works q.is q.works)
 
-  pub from-below : {from begin : ℕ} → from ≡ max low (own - 1) → i < length u - 1
+  pub from-below : {from begin : ℕ} → from ≡ max low (own + (task_at ts i).jitter - 1) → i < length u - 1
       → begin ≡ begin_below (task_at ts (length u - 1)) (task_at ts i) own → SeeksBelow ts u i from most (max start begin)
   from-below {from} {begin} e h b =
       let c = lowest-begins h in
@@ -322,26 +331,26 @@ module _ {ts : List Task} {u : List ℕ} {i own low most start : ℕ} (q : Seeks
         begins = rw b (record { some = omega (arith, c.some); below = λ t d. omega (arith, q.begins.below t d, c.below t d) });
       }
 
-  from-own : (v : ℕ) → v ≤ most → meets ts (set u i v) i ≡ leb own v
+  from-own : (v : ℕ) → v ≤ most → meets ts (set u i v) i ≡ leb (own + jitter) v
   from-own = own_meets ts u i q.range.inside most (q.range.limits.valid i i-inside) q.is q.works
 
-  pub from_last : {from v : ℕ} → from ≡ max low (own - 1)
+  pub from_last : {from v : ℕ} → from ≡ max low (own + (task_at ts i).jitter - 1)
       → LastMiss ts u i (suc i) (length u) from most v → LastMiss ts u i i (length u) low most v
   from_last {from} {v} f l = record {
     above = omega (arith, l.above);
     upto = l.upto;
-    misses = λ h. elim (le-or-lt own v) [
+    misses = λ h. elim (le-or-lt (own + jitter) v) [
       | inl p ↦ l.misses (omega (arith, q.works))
-      | inr p ↦ schedulable-none ts (set u i v) i i-inside (from-own v l.upto ∙ lt-leb own v p)
+      | inr p ↦ schedulable-none ts (set u i v) i i-inside (from-own v l.upto ∙ lt-leb (own + jitter) v p)
     ];
     past = λ j a b y c d. elim (eq-or-ne j i) [
-      | inl n ↦ rw n (from-own y d ∙ le-leb own y (omega (arith, l.above)))
+      | inl n ↦ rw n (from-own y d ∙ le-leb (own + jitter) y (omega (arith, l.above)))
       | inr n ↦ l.past j (omega arith) b y (omega arith) d
     ];
   }
 
   -- with no task below
-  pub from-alone : {from : ℕ} → from ≡ max low (own - 1) → length u - 1 ≤ i → LastMiss ts u i i (length u) low most from
+  pub from-alone : {from : ℕ} → from ≡ max low (own + (task_at ts i).jitter - 1) → length u - 1 ≤ i → LastMiss ts u i i (length u) low most from
   from-alone {from} e h = from_last e (record {
     above = omega arith;
     upto = omega (arith, q.range.order, own-most);

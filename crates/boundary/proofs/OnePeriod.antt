@@ -1,4 +1,4 @@
--- One period changed: what a task's response time at one value tells of the others.
+-- One period changed: what a task's busy period at one value tells of the others.
 use mathlib.Core.Path.{◌≡◌, sym, ap, ◌∙◌}
 use mathlib.Core.Logic.{inl, inr}
 use mathlib.Core.List.{List}
@@ -14,15 +14,15 @@ use Rattle.std.proofs.lemmas.Grind.{div_ceil_times}
 use Rattle.plan.specs.declared.tasks.Task.{Task}
 use Rattle.plan.specs.Tasks.{task_at, Valid}
 use Rattle.plan.proofs.Tests.{le-or-lt, eq-or-ne, not-false}
-use Rattle.response.specs.Analysis.{ceiling, own_demand, demand, deadline, deadline_at, response_up_to, meets}
+use Rattle.response.specs.Analysis.{ceiling, releases, own_demand, demand, deadline, deadline_at, busy_up_to, meets}
 use Rattle.response.specs.Claims.{Covers}
-use Rattle.response.specs.Inner.{Begins, response_in_time}
+use Rattle.response.specs.Inner.{Begins, busy_in_time}
 use Rattle.boundary.specs.Misses.{BeginsAt}
 use Rattle.response.proofs.Ceiling.{ceiling-le, le-ceiling, ceiling-some}
 use Rattle.response.proofs.Demand.{demand-monotone, demand-less, demand-more, demand_own, demand-same}
-use Rattle.response.proofs.Exactness.{response-exact}
+use Rattle.response.proofs.Exactness.{busy-exact}
 use Rattle.response.proofs.Dominance.{set-mono}
-use Rattle.response.proofs.Sustainable.{response-same, covers_up, meets-covers, covers-meets}
+use Rattle.response.proofs.Sustainable.{busy-same, covers_up, meets-covers, covers-meets}
 
 -- the least period at which a task is released as often before time t as at period p
 abbrev pub alike : ℕ → ℕ → ℕ
@@ -59,13 +59,13 @@ rounded-up a p h =
 pub alike-is : (t p : ℕ) → 1 ≤ t → 1 ≤ p → div_ceil t (div_ceil t p) ≡ alike t p
 alike-is t p s h = rw (rounded-up t p h) (rounded-up t (ceiling t p) (ceiling-some t p s h))
 
--- a task's demand by its response time is no less
-response-tight : (limit : ℕ) (ts : List Task) (xs : List ℕ) (i : ℕ) → 1 ≤ own_demand (task_at ts i)
-    → 1 ≤ response_up_to limit ts xs i → response_up_to limit ts xs i ≤ demand ts xs i (response_up_to limit ts xs i)
-response-tight limit ts xs i w s =
-    let r = response_up_to limit ts xs i in
+-- a task's demand by the end of its busy period is no less
+busy-tight : (limit : ℕ) (ts : List Task) (xs : List ℕ) (i : ℕ) → 1 ≤ own_demand (task_at ts i)
+    → 1 ≤ busy_up_to limit ts xs i → busy_up_to limit ts xs i ≤ demand ts xs i (busy_up_to limit ts xs i)
+busy-tight limit ts xs i w s =
+    let r = busy_up_to limit ts xs i in
     let m = demand ts xs i r in
-    let x = response-exact limit ts xs i w in
+    let x = busy-exact limit ts xs i w in
     let c = x.covers s in
     elim (le-or-lt r m) [
       | inl h ↦ h
@@ -77,19 +77,22 @@ response-tight limit ts xs i w s =
     ]
 
 module _ (ts : List Task) (u : List ℕ) (i : ℕ) where
+  abbrev jitter : ℕ
+  jitter = (task_at ts i).jitter
+
   -- the deadline of another task stays
   pub deadline-other : (k p : ℕ) → (k ≡ i → ⊥) → deadline_at ts (set u i p) k ≡ deadline_at ts u k
   deadline-other k p n = ap (deadline (task_at ts k)) (get_or-set_other u i k p 0 n)
 
-  -- and the response time of a task above
-  pub response-other : (k p : ℕ) → k < i → response_in_time ts (set u i p) k ≡ response_in_time ts u k
-  response-other k p l =
-      ap (λ d. response_up_to d ts (set u i p) k) (deadline-other k p (λ e. omega arith))
-      ∙ response-same ts (set u i p) u k (λ j h. get_or-set_other u i j p 0 (λ e. omega arith)) (deadline_at ts u k)
+  -- and the busy period of a task above
+  pub busy-other : (k p : ℕ) → k < i → busy_in_time ts (set u i p) k ≡ busy_in_time ts u k
+  busy-other k p l =
+      ap (λ d. busy_up_to d ts (set u i p) k) (deadline-other k p (λ e. omega arith))
+      ∙ busy-same ts (set u i p) u k (λ j h. get_or-set_other u i j p 0 (λ e. omega arith)) (deadline_at ts u k)
 
   module _ (b : i < length u) where
     -- task i's own period bounds its deadline and has no part in its demand
-    own-covers : (p q t : ℕ) → t ≤ q
+    own-covers : (p q t : ℕ) → t + jitter ≤ q
         → Covers (deadline_at ts (set u i p) i) ts (set u i p) i t → Covers (deadline_at ts (set u i q) i) ts (set u i q) i t
     own-covers p q t h c =
         let other : (x k : ℕ) → k < i → get_or (set u i x) k 0 ≡ get_or u k 0 = λ x k l. get_or-set_other u i k x 0 (λ e. omega arith) in
@@ -99,40 +102,40 @@ module _ (ts : List Task) (u : List ℕ) (i : ℕ) where
           covers = omega (arith, c.covers, demand-same ts (set u i p) (set u i q) i t (λ k l. other p k l ∙ sym (other q k l)));
         }
 
-    -- so task i meets its deadline from its response time on
-    pub own_meets : (most : ℕ) {r : ℕ} → Valid (task_at ts i) → r ≡ response_in_time ts (set u i most) i → 1 ≤ r
-        → (v : ℕ) → v ≤ most → meets ts (set u i v) i ≡ leb r v
+    -- so task i meets its deadline from its busy period and its jitter on
+    pub own_meets : (most : ℕ) {r : ℕ} → Valid (task_at ts i) → r ≡ busy_in_time ts (set u i most) i → 1 ≤ r
+        → (v : ℕ) → v ≤ most → meets ts (set u i v) i ≡ leb (r + (task_at ts i).jitter) v
     own_meets most {r} valid is s v h =
-        let x = response-exact (deadline_at ts (set u i most) i) ts (set u i most) i (omega (arith, valid.wcet_some)) in
-        elim (le-or-lt r v) [
-          | inl l ↦ rw (le-leb r v l)
+        let x = busy-exact (deadline_at ts (set u i most) i) ts (set u i most) i (omega (arith, valid.wcet_some)) in
+        elim (le-or-lt (r + jitter) v) [
+          | inl l ↦ rw (le-leb (r + jitter) v l)
               (covers-meets ts i valid (set u i v) (own-covers most v r l (rw (← is) at (x.covers (omega arith)))))
-          | inr l ↦ rw (lt-leb r v l) (not-false (λ e.
+          | inr l ↦ rw (lt-leb (r + jitter) v l) (not-false (λ e.
               let y = meets-covers ts i valid (set u i v) e in
-              let t = response_in_time ts (set u i v) i in
-              let early : t ≤ v = omega (arith, get_or-set_same u i v 0 b, y.early) in
+              let t = busy_in_time ts (set u i v) i in
+              let early : t + jitter ≤ v = omega (arith, get_or-set_same u i v 0 b, y.early) in
               omega (arith, x.least t (own-covers v most t (omega arith) y))))
         ]
 
-    -- at that response time, which it keeps
-    pub own_responds : (most : ℕ) {r : ℕ} → 1 ≤ own_demand (task_at ts i) → r ≡ response_in_time ts (set u i most) i → 1 ≤ r
-        → (v : ℕ) → v ≤ most → r ≤ v → response_in_time ts (set u i v) i ≡ r
-    own_responds most {r} w is s v h l =
-        let x = response-exact (deadline_at ts (set u i most) i) ts (set u i most) i w in
-        let y = response-exact (deadline_at ts (set u i v) i) ts (set u i v) i w in
-        let t = response_in_time ts (set u i v) i in
+    -- with that busy period, which it keeps
+    pub own_busy : (most : ℕ) {r : ℕ} → 1 ≤ own_demand (task_at ts i) → r ≡ busy_in_time ts (set u i most) i → 1 ≤ r
+        → (v : ℕ) → v ≤ most → r + (task_at ts i).jitter ≤ v → busy_in_time ts (set u i v) i ≡ r
+    own_busy most {r} w is s v h l =
+        let x = busy-exact (deadline_at ts (set u i most) i) ts (set u i most) i w in
+        let y = busy-exact (deadline_at ts (set u i v) i) ts (set u i v) i w in
+        let t = busy_in_time ts (set u i v) i in
         let low = y.least r (own-covers most v r l (rw (← is) at (x.covers (omega arith)))) in
         let c = y.covers low.0 in
-        let early : t ≤ v = omega (arith, get_or-set_same u i v 0 b, c.early) in
+        let early : t + jitter ≤ v = omega (arith, get_or-set_same u i v 0 b, c.early) in
         let high = x.least t (own-covers v most t (omega arith) c) in
         omega (arith, low.1, high.1, is)
 
-    -- task k below is done by its response time wherever task i is released no more often within it
+    -- the busy period of task k below covers wherever task i is released no more often within it
     module _ (k : ℕ) (below : i < k) (w : 1 ≤ own_demand (task_at ts k)) where
-      pub released-covers : (p : ℕ) {r : ℕ} → r ≡ response_in_time ts (set u i p) k → 1 ≤ r
-          → (q : ℕ) → ceiling r q ≤ ceiling r p → Covers (deadline_at ts (set u i q) k) ts (set u i q) k r
+      pub released-covers : (p : ℕ) {r : ℕ} → r ≡ busy_in_time ts (set u i p) k → 1 ≤ r
+          → (q : ℕ) → releases (task_at ts i) q r ≤ releases (task_at ts i) p r → Covers (deadline_at ts (set u i q) k) ts (set u i q) k r
       released-covers p {r} is s q h =
-          let c = rw (← is) at ((response-exact (deadline_at ts (set u i p) k) ts (set u i p) k w).covers (omega arith)) in
+          let c = rw (← is) at ((busy-exact (deadline_at ts (set u i p) k) ts (set u i p) k w).covers (omega arith)) in
           record {
             some = s;
             early = omega (arith, c.early, deadline-other k p (λ e. omega arith), deadline-other k q (λ e. omega arith));
@@ -147,8 +150,8 @@ module _ (ts : List Task) (u : List ℕ) (i : ℕ) where
           }
 
       -- and wherever it is released more often, no earlier than one more run of it after that
-      pub released-begins : (p : ℕ) {r : ℕ} → r ≡ response_in_time ts (set u i p) k → 1 ≤ r
-          → (q : ℕ) → BeginsAt ts u i q k r → ceiling r p < ceiling r q → BeginsAt ts u i q k (r + (task_at ts i).wcet)
+      pub released-begins : (p : ℕ) {r : ℕ} → r ≡ busy_in_time ts (set u i p) k → 1 ≤ r
+          → (q : ℕ) → BeginsAt ts u i q k r → releases (task_at ts i) p r < releases (task_at ts i) q r → BeginsAt ts u i q k (r + (task_at ts i).wcet)
       released-begins p {r} is s q n h = record {
         some = omega arith;
         below = λ t c.
@@ -157,7 +160,7 @@ module _ (ts : List Task) (u : List ℕ) (i : ℕ) where
               | inl e ↦ rw (e, get_or-set_same u i p 0 b, get_or-set_same u i q 0 b) (omega arith)
               | inr n ↦ rw (get_or-set_other u i j p 0 n, get_or-set_other u i j q 0 n) (omega arith)
             ]) in
-            let tight = rw (← is) at (response-tight (deadline_at ts (set u i p) k) ts (set u i p) k w (rw (← is) s)) in
+            let tight = rw (← is) at (busy-tight (deadline_at ts (set u i p) k) ts (set u i p) k w (rw (← is) s)) in
             omega (arith, c.covers, m, tight, demand-monotone ts (set u i q) k r t (n.below t c));
       }
 
@@ -168,6 +171,6 @@ module _ (ts : List Task) (u : List ℕ) (i : ℕ) where
       record { some = b.some; below = λ t c. b.below t (covers_up ts (set u i y) (set u i p) k t some (λ j h. set-mono u i l j) c) }
 
 -- a climb may begin at what it leads to
-pub response-begins : (limit : ℕ) (ts : List Task) (xs : List ℕ) (i : ℕ) → 1 ≤ own_demand (task_at ts i)
-    → {r : ℕ} → r ≡ response_up_to limit ts xs i → 1 ≤ r → Begins limit ts xs i r
-response-begins limit ts xs i w is s = record { some = s; below = λ t c. rw is ((response-exact limit ts xs i w).least t c).1 }
+pub busy-begins : (limit : ℕ) (ts : List Task) (xs : List ℕ) (i : ℕ) → 1 ≤ own_demand (task_at ts i)
+    → {r : ℕ} → r ≡ busy_up_to limit ts xs i → 1 ≤ r → Begins limit ts xs i r
+busy-begins limit ts xs i w is s = record { some = s; below = λ t c. rw is ((busy-exact limit ts xs i w).least t c).1 }

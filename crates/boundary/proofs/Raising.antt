@@ -18,9 +18,9 @@ use Rattle.plan.specs.Tasks.{max_ticks, task_at, period_maxs}
 use Rattle.plan.proofs.Tests.{le-or-lt, eq-or-ne}
 use Rattle.plan.proofs.Valid.{valid-at}
 use Rattle.response.specs.Analysis.{own_demand, deadline_at, first_meet, schedulable, max_response}
-use Rattle.response.specs.Inner.{some_time, Limits, response_in_time}
+use Rattle.response.specs.Inner.{some_time, Limits, busy_in_time}
 use Rattle.response.proofs.Limits.{limits-set}
-use Rattle.response.proofs.Exactness.{own-some, own-begins, response-early, some-time}
+use Rattle.response.proofs.Exactness.{own-some, own-begins, busy-early, some-time}
 use Rattle.response.proofs.Slack.{meets-in-time, meets-responds, misses-none}
 use Rattle.response.proofs.Dominance.{set-at-most}
 use Rattle.response.proofs.Ranges.{max-at}
@@ -32,7 +32,7 @@ use Rattle.boundary.specs.Raising.{Unschedulable, Raises, Raised}
 use Rattle.boundary.proofs.Maximal.{raised_is}
 use Rattle.response.proofs.Found.{found-none, found-some}
 use Rattle.boundary.proofs.Beginning.{begins-next}
-use Rattle.boundary.proofs.OnePeriod.{response-other, response-begins, own_meets, own_responds}
+use Rattle.boundary.proofs.OnePeriod.{busy-other, busy-begins, own_meets, own_busy}
 
 -- raising one period
 module _ (ts : List Task) (u : List ℕ) where
@@ -66,13 +66,19 @@ module _ {ts : List Task} {u : List ℕ} {i most begin : ℕ} (h : Raises ts u i
   inside : i < length ts
   inside = omega (arith, h.range.inside, h.range.limits.sized)
 
-  pub raised-most : response_in_time ts (set u i most) i ≡ 0 → Raised ts u i most (set u i most)
+  pub raised-most : busy_in_time ts (set u i most) i ≡ 0 → Raised ts u i most (set u i most)
   raised-most e =
       let r = h.range in
       let m = misses-none ts (set u i most) i (raises-limits.valid i inside) e in
       raised-top ts u i r.order (schedulable-none ts (set u i most) i inside m)
 
-  module _ {own : ℕ} (is : own ≡ response_in_time ts (set u i most) i) (s : 1 ≤ own) where
+  module _ {own : ℕ} (is : own ≡ busy_in_time ts (set u i most) i) (s : 1 ≤ own) where
+    pub raises-small : own + (task_at ts i).jitter ≤ max_ticks
+    raises-small =
+        let d = deadline_at ts (set u i most) i in
+        let w = own-some ts raises-limits.valid i inside in
+        omega (arith, is, busy-early d ts (set u i most) i w (rw is at s), raises-limits.most i)
+
     pub raises-seeks : {start : ℕ} → start ≡ own_demand (task_at ts (length ts - 1))
         → SeeksFrom ts (set u i most) i own (get_or u i 0) most start
     raises-seeks e = record {
@@ -90,8 +96,10 @@ module _ {ts : List Task} {u : List ℕ} {i most begin : ℕ} (h : Raises ts u i
 
     pub raised-last : {u' : List ℕ} {v : ℕ}
         → LastMiss ts (set u i most) i i (length (set u i most)) (get_or u i 0) most v → Moved ts i (set u i most) u'
-        → Raised ts u i most (set u' i v) × (then_some (leb own v) own ≡ some_time (response_in_time ts (set u' i v) i))
+        → Raised ts u i most (set u' i v)
+        × (then_some (leb (own + (task_at ts i).jitter) v) own ≡ some_time (busy_in_time ts (set u' i v) i))
     raised-last {u'} {v} l m =
+        let ends = own + (task_at ts i).jitter in
         let once : (y : ℕ) → set (set u i most) i y ≡ set u i y = λ y. set-set u i most y in
         let w = own-some ts h.range.limits.valid i inside in
         rw (m.only v ∙ once v) (
@@ -109,14 +117,14 @@ module _ {ts : List Task} {u : List ℕ} {i most begin : ℕ} (h : Raises ts u i
               | inr e ↦ meets-set ts u j i y e ∙ first-all ts u i h.above j e
             ]);
           },
-          elim (le-or-lt own v) [
-            | inl e ↦ rw (le-leb own v e, own_responds ts u i h.range.inside most w is s v l.upto e) (some-time own s)
+          elim (le-or-lt ends v) [
+            | inl e ↦ rw (le-leb ends v e, own_busy ts u i h.range.inside most w is s v l.upto e) (some-time own s)
             | inr e ↦
                 let valid = h.range.limits.valid i inside in
-                let z = own_meets ts u i h.range.inside most valid is s v l.upto ∙ lt-leb own v e in
-                let t = response_in_time ts (set u i v) i in
+                let z = own_meets ts u i h.range.inside most valid is s v l.upto ∙ lt-leb ends v e in
+                let t = busy_in_time ts (set u i v) i in
                 let none : t ≡ 0 = omega (arith, leb-false 1 t (sym (meets-in-time ts (set u i v) i valid) ∙ z)) in
-                rw (lt-leb own v e, none) refl
+                rw (lt-leb ends v e, none) refl
           ],
         )
 
@@ -126,14 +134,14 @@ pub record Met (ts : List Task) (u : List ℕ) (i r : ℕ) : Type 0 where
   pub early : r ≤ max_response
   pub begins : i < length ts → BeginsAt ts u i (task_at ts i).period_max i (begin_at ts i r)
 
--- raising all in turn: u is what the code has before task i, and the response time of the task above, none where a task
+-- raising all in turn: u is what the code has before task i, and the busy period of the task above, none where a task
 -- above misses its deadline
-pub record Raising (ts : List Task) (node : List ℕ) (i : ℕ) (u : List ℕ) (response : Option ℕ) : Type 0 where
+pub record Raising (ts : List Task) (node : List ℕ) (i : ℕ) (u : List ℕ) (busy : Option ℕ) : Type 0 where
   pub held : Unschedulable ts u
   pub sized : length u ≡ length node
   pub above : i ≤ length node
-  pub met : (r : ℕ) → response ≡ Some r → Met ts u i r
-  pub missed : response ≡ None → first_meet ts u i ≡ false
+  pub met : (r : ℕ) → busy ≡ Some r → Met ts u i r
+  pub missed : busy ≡ None → first_meet ts u i ≡ false
   pub leads : mua_from (length node - i) (schedulable ts) (period_maxs ts) u i ≡ mua (schedulable ts) (period_maxs ts) node
 
 module _ {ts : List Task} {node : List ℕ} where
@@ -152,8 +160,8 @@ module _ {ts : List Task} {node : List ℕ} where
     leads = rw (sub-zero (length node));
   }
 
-  module _ {i : ℕ} {u : List ℕ} {response : Option ℕ} (g : Raising ts node i u response) where
-    pub raising-early : {r : ℕ} → response ≡ Some r → i < length ts → BeginsBelow ts i r
+  module _ {i : ℕ} {u : List ℕ} {busy : Option ℕ} (g : Raising ts node i u busy) where
+    pub raising-early : {r : ℕ} → busy ≡ Some r → i < length ts → BeginsBelow ts i r
     raising-early e l = record { inside = l; early = (g.met _ e).early }
 
     module _ (l : i < length ts) where
@@ -169,7 +177,7 @@ module _ {ts : List Task} {node : List ℕ} where
       within : i < length u
       within = omega (arith, l, g.held.limits.sized)
 
-      pub raising-raises : {r : ℕ} → response ≡ Some r → Raises ts u i most (begin_at ts i r)
+      pub raising-raises : {r : ℕ} → busy ≡ Some r → Raises ts u i most (begin_at ts i r)
       raising-raises {r} e =
           let m = g.met r e in
           record {
@@ -189,11 +197,11 @@ module _ {ts : List Task} {node : List ℕ} where
           rw d.is (limits-set v i d.value (omega (arith, d.above, v.some i within)) (omega (arith, d.upto, ticks)))
 
       met-next : {u' : List ℕ} → Raised ts u i most u' → first_meet ts u' i ≡ true → {t : ℕ}
-          → (t ≡ response_in_time ts u' i) × (1 ≤ t) → Met ts u' (suc i) t
+          → (t ≡ busy_in_time ts u' i) × (1 ≤ t) → Met ts u' (suc i) t
       met-next {u'} d all {t} q =
           let v = raised-limits d in
           let w = own-some ts v.valid i l in
-          let early = response-early (deadline_at ts u' i) ts u' i w in
+          let early = busy-early (deadline_at ts u' i) ts u' i w (rw q.0 at q.1) in
           record {
             all = rw (all, meets-responds ts u' i (v.valid i l) (omega (arith, q.0, q.1))) refl;
             early = omega (arith, early, q.0, v.most i);
@@ -201,15 +209,15 @@ module _ {ts : List Task} {node : List ℕ} where
                 let next = v.valid (suc i) h in
                 let x = set u' (suc i) (task_at ts (suc i)).period_max in
                 let some = limits-set v (suc i) (task_at ts (suc i)).period_max (omega (arith, next.min_some, next.ordered)) next.max_most in
-                let is : t ≡ response_in_time ts x i = q.0 ∙ sym (response-other ts u' (suc i) i _ (omega arith)) in
+                let is : t ≡ busy_in_time ts x i = q.0 ∙ sym (busy-other ts u' (suc i) i _ (omega arith)) in
                 begins-next v.valid x (λ k c. some.some k (omega (arith, some.sized))) h
-                (omega (arith, response-early (deadline_at ts x i) ts x i w))
-                (response-begins (deadline_at ts x i) ts x i w is q.1);
+                (omega (arith, is, busy-early (deadline_at ts x i) ts x i w (rw is at q.1)))
+                (busy-begins (deadline_at ts x i) ts x i w is q.1);
           }
 
-      raising-on : {u' : List ℕ} {response' : Option ℕ} → Raised ts u i most u'
-          → ((r : ℕ) → response' ≡ Some r → Met ts u' (suc i) r) → (response' ≡ None → first_meet ts u' (suc i) ≡ false)
-          → Raising ts node (i + 1) u' response'
+      raising-on : {u' : List ℕ} {busy' : Option ℕ} → Raised ts u i most u'
+          → ((r : ℕ) → busy' ≡ Some r → Met ts u' (suc i) r) → (busy' ≡ None → first_meet ts u' (suc i) ≡ false)
+          → Raising ts node (i + 1) u' busy'
       raising-on {u'} r m n =
           let z : length node - i ≡ suc (length node - suc i) = omega (arith, within, g.sized) in
           let f : schedulable ts (set u i r.value) ≡ false = rw r.is at r.fails in
@@ -231,15 +239,15 @@ module _ {ts : List Task} {node : List ℕ} where
                 (rw z at g.leads));
           })
 
-      pub raising-met : {u' : List ℕ} {r : ℕ} → response ≡ Some r → Raised ts u i most u' → {response' : Option ℕ}
-          → response' ≡ some_time (response_in_time ts u' i) → Raising ts node (i + 1) u' response'
+      pub raising-met : {u' : List ℕ} {r : ℕ} → busy ≡ Some r → Raised ts u i most u' → {busy' : Option ℕ}
+          → busy' ≡ some_time (busy_in_time ts u' i) → Raising ts node (i + 1) u' busy'
       raising-met {u'} {r} e d is =
           let all : first_meet ts u' i ≡ true = rw d.is (first-set ts u i d.value i (omega arith) ∙ (g.met r e).all) in
           raising-on d
           (λ t f. met-next d all (found-some _ (sym is ∙ f)))
           (λ f. rw (all, misses-none ts u' i ((raised-limits d).valid i l) (found-none _ (sym is ∙ f))) refl)
 
-      pub raising-missed : response ≡ None → Raising ts node (i + 1) (set u i most) response
+      pub raising-missed : busy ≡ None → Raising ts node (i + 1) (set u i most) busy
       raising-missed n =
           let f : first_meet ts (set u i most) i ≡ false = first-set ts u i most i (omega arith) ∙ g.missed n in
           let h = g.held in

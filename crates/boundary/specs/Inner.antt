@@ -23,10 +23,10 @@ pub record Lowers (ts : List Task) (node x : List ℕ) : Type 0 where
   pub above : (k : ℕ) → get_or node k 0 ≤ get_or x k 0
   pub met : schedulable ts x ≡ true
 
--- where a climb of a task may begin, a task above it having responded at a time
+-- where a climb of a task may begin, by the busy period of a task above it
 abbrev pub begin_below : Task → Task → ℕ → ℕ
-begin_below task above response =
-    let own = own_demand task in cond (leb above.blocking own) (response + (own - above.blocking)) own
+begin_below task above busy =
+    let own = own_demand task in cond (leb above.blocking own) (busy + (own - above.blocking)) own
 
 -- of task i, by the task right above it
 abbrev pub begin_at : List Task → ℕ → ℕ → ℕ

@@ -3,7 +3,7 @@ use Rattle.std.specs.Prelude.{◌≡◌, Bool, true, false, ◌&&◌, List, ℕ,
 use Rattle.plan.specs.declared.tasks.Task.{Task}
 use Rattle.plan.specs.Tasks.{max_ticks, task_at}
 use Rattle.response.specs.Analysis.{own_demand, deadline, deadline_at, meets, schedulable}
-use Rattle.response.specs.Inner.{Limits, Begins, response_in_time}
+use Rattle.response.specs.Inner.{Limits, Begins, busy_in_time}
 
 -- where the period of task i may go
 pub record Range (ts : List Task) (u : List ℕ) (i low most : ℕ) : Type 0 where
@@ -32,7 +32,7 @@ BeginsAt ts u i v k t = Begins (deadline_at ts (set u i v) k) ts (set u i v) k t
 -- whether a time that covers the demand of a lower task, with its own demand, covers that of a task in time, too: the
 -- task's blocking is in its own demand only
 abbrev pub settles : Task → ℕ → ℕ → ℕ → Bool
-settles task period own r = leb r (deadline task period) && leb task.blocking own
+settles task period own r = leb r (deadline task period - task.jitter) && leb task.blocking own
 
 -- r is a time of task k: no climb right past v need begin before it; and a task above it, below task i, that it settles
 -- meets its deadline everywhere past v
@@ -49,11 +49,11 @@ pub record Seeks (ts : List Task) (u : List ℕ) (i k low most start : ℕ) : Ty
   pub begins : BeginsAt ts u i most k start
 
 -- that of the tasks between task i and task k, whose own last miss is known, with a time of it
-pub record SeeksBetween (ts : List Task) (u : List ℕ) (i k most last response : ℕ) : Type 0 where
+pub record SeeksBetween (ts : List Task) (u : List ℕ) (i k most last busy : ℕ) : Type 0 where
   pub range : Range ts u i last most
   pub below : i < k
   pub inside : k < length u
-  pub responds : Responds ts u i k most last response
+  pub responds : Responds ts u i k most last busy
 
 -- that of all tasks below task i; the climbs of the lowest may begin at start
 pub record SeeksBelow (ts : List Task) (u : List ℕ) (i low most start : ℕ) : Type 0 where
@@ -61,9 +61,9 @@ pub record SeeksBelow (ts : List Task) (u : List ℕ) (i low most start : ℕ) :
   pub below : i < length u - 1
   pub begins : BeginsAt ts u i most (length u - 1) start
 
--- that of task i, too, which may be the lowest: own is its response time at the period most
+-- that of task i, too, which may be the lowest: own is its busy period at the period most
 pub record SeeksFrom (ts : List Task) (u : List ℕ) (i own low most start : ℕ) : Type 0 where
   pub range : Range ts u i low most
   pub begins : BeginsAt ts u i most (length u - 1) start
   pub works : 1 ≤ own
-  pub is : own ≡ response_in_time ts (set u i most) i
+  pub is : own ≡ busy_in_time ts (set u i most) i

@@ -7,16 +7,16 @@ ghost use Rattle.boundary.specs.Inner.{begin_at, begin_below, BeginsBelow};
 use plan::{Plan, Task};
 use response::own_demand;
 
-// Where the climbs of a task may begin, the response time of a task above it being known: it responds no earlier than
-// that, less that task's blocking, which it does not see, and its own demand later. Where the blocking exceeds its own
+// Where the climbs of a task may begin, the busy period of a task above it being known: its own is no shorter than
+// that, less that task's blocking, which it does not see, and its own demand more. Where the blocking exceeds its own
 // demand only the latter is known.
-pub fn begin_below(task: &Task, above: &Task, response: u32) -> u32
-    requires { Valid task.now × (response ≤ max_response) }
-    ensures { result ≡ begin_below task.now above.now response }
+pub fn begin_below(task: &Task, above: &Task, busy: u32) -> u32
+    requires { Valid task.now × (busy ≤ max_response) }
+    ensures { result ≡ begin_below task.now above.now busy }
 {
     let own = own_demand(task);
     match own.checked_sub(above.blocking) {
-        Some(later) => response + later,
+        Some(later) => busy + later,
         None => own,
     }
 }

@@ -12,9 +12,9 @@ use super::node::Node;
 use plan::Plan;
 use response::Assignment;
 
-// Each task in turn. A task responds no earlier than `begin_at` says, and the lowest no earlier than before a period
-// was lowered: their climbs begin there. The periods that are lowered and the node's below them are a lower bound of
-// the cost: past the limit the rest is left.
+// Each task in turn. A task's busy period is no shorter than `begin_at` says, and the lowest's no shorter than before a
+// period was lowered: their climbs begin there. The periods that are lowered and the node's below them are a lower
+// bound of the cost: past the limit the rest is left.
 fn lower_all(plan: &Plan, x: &mut [u32], node: &Node, limit: u64) -> u64
     requires { let ts = plan_tasks plan.now in let p = node.now.periods.items in
         Lowers ts p x.old × (node.now.cost ≡ cost (weights ts) p) }
@@ -31,7 +31,7 @@ fn lower_all(plan: &Plan, x: &mut [u32], node: &Node, limit: u64) -> u64
         let begin = begin_at(plan, i, own);
         let assignment = Assignment { plan, periods: x };
         own = assignment
-            .response_from(i, assignment.deadline(i), begin)
+            .busy_from(i, assignment.deadline(i), begin)
             .unwrap();
         let miss = last_miss_from(plan, x, i, own, least - 1, most, start);
         let period = miss.last + 1;
@@ -40,7 +40,7 @@ fn lower_all(plan: &Plan, x: &mut [u32], node: &Node, limit: u64) -> u64
         if limit < cost {
             return cost;
         }
-        start = miss.response;
+        start = miss.busy;
     }
     cost
 }

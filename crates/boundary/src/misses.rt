@@ -9,12 +9,12 @@ use super::begins::begin_below;
 use plan::{Plan, Task};
 use response::{Assignment, deadline, own_demand};
 
-// The last period at which a deadline is missed, and a time at which the climbs right past it may begin: a response
-// time there, or the one at which they began before.
+// The last period at which a deadline is missed, and a time at which the climbs right past it may begin: a busy period
+// there, or the time at which they began before.
 #[derive(Clone, Copy, Debug, PartialEq, Eq)]
 pub struct Miss {
     pub last: u32,
-    pub response: u32,
+    pub busy: u32,
 }
 
 // The value to try next. The one above low settles a task that meets its deadline there; after it, the one below high
@@ -33,8 +33,8 @@ fn probe(low: u32, high: u32, turn: u32) -> u32
 }
 
 // The last period of task i, from low to most, at which task k misses its deadline; low where there is none above.
-// Where task k meets its deadline, it meets it down to the least period at which task i runs as often within its
-// response time. At every shorter period task i runs once more by then: the next climb begins so much later.
+// Where task k meets its deadline, it meets it down to the least period at which task i is released as often within its
+// busy period. At every shorter period task i runs once more by then: the next climb begins so much later.
 // Plan, task and greatest period stay parameters: as a struct's fields every clause would name them by `self.now`; and
 // the periods are lent mutably, which an `Assignment`'s are not.
 fn last_miss(
@@ -49,13 +49,14 @@ fn last_miss(
     requires { Seeks (plan_tasks plan.now) u.old i k low most start }
     ensures is { LastMiss (plan_tasks plan.now) u.old i k (suc k) low most result.last }
     ensures responds { Responds (plan_tasks plan.now) u.old i k most
-        result.last result.response }
+        result.last result.busy }
     ensures moved { Moved (plan_tasks plan.now) i u.old u.new }
 {
+    let task = &plan.tasks[i];
     let deadline = (Assignment { plan, periods: u }).deadline(k);
     let mut last = low;
     let mut high = most + 1;
-    let mut response = start;
+    let mut busy = start;
     let mut begin = start;
     let mut turn: u32 = 0;
     // No `for`: what is left shrinks by jumps; a turn chooses the next value only.
@@ -63,30 +64,32 @@ fn last_miss(
         let period = probe(last, high, turn);
         u[i] = period;
         let assignment = Assignment { plan, periods: u };
-        match assignment.response_from(k, deadline, begin) {
+        match assignment.busy_from(k, deadline, begin) {
             None => last = period,
             Some(found) => {
-                response = found;
-                begin = found + plan.tasks[i].wcet;
-                high = found.div_ceil(found.div_ceil(period));
+                busy = found;
+                begin = found + task.wcet;
+                let window = found + task.jitter;
+                high = window.div_ceil(window.div_ceil(period));
             }
         }
         turn += 1;
     }
-    Miss { last, response }
+    Miss { last, busy }
 }
 
-// Whether a lower task's response time, with its own demand, settles a task at a period.
-fn settles(task: &Task, period: u32, own: u32, response: u32) -> bool
-    ensures { result ≡ settles task.now period own response }
+// Whether a lower task's busy period, with its own demand, settles a task at a period.
+fn settles(task: &Task, period: u32, own: u32, busy: u32) -> bool
+    ensures { result ≡ settles task.now period own busy }
 {
-    response <= deadline(task, period) && task.blocking <= own
+    busy <= deadline(task, period).saturating_sub(task.jitter) && task.blocking <= own
 }
 
-// As `last_miss`, of the tasks between task i and task k, whose last miss and response time are known: these settle
-// every task whose deadline is not before that time and whose blocking is not above task k's own demand.
+// As `last_miss`, of the tasks between task i and task k, whose last miss and busy period are known: these settle
+// every task whose deadline, less its jitter, is not before that time and whose blocking is not above task k's own
+// demand.
 fn last_miss_between(plan: &Plan, u: &mut [u32], i: usize, k: usize, most: u32, known: Miss) -> u32
-    requires { SeeksBetween (plan_tasks plan.now) u.old i k most known.last known.response }
+    requires { SeeksBetween (plan_tasks plan.now) u.old i k most known.last known.busy }
     ensures is { let ts = plan_tasks plan.now in
         LastMiss ts u.old i (suc i) k known.last most result }
     ensures moved { Moved (plan_tasks plan.now) i u.old u.new }
@@ -95,7 +98,7 @@ fn last_miss_between(plan: &Plan, u: &mut [u32], i: usize, k: usize, most: u32, 
     let mut own = own_demand(&plan.tasks[k]);
     for j in (i + 1..k).rev() {
         let task = &plan.tasks[j];
-        if !settles(task, u[j], own, miss.response) {
+        if !settles(task, u[j], own, miss.busy) {
             own = own_demand(task);
             miss = last_miss(plan, u, i, j, miss.last, most, own);
         }
@@ -110,23 +113,23 @@ fn last_miss_below(plan: &Plan, u: &mut [u32], i: usize, low: u32, most: u32, st
     ensures is { let n = length u.old in
         LastMiss (plan_tasks plan.now) u.old i (suc i) n low most result.last }
     ensures begins { let p = u.old in (result.last < most
-        → BeginsAt (plan_tasks plan.now) p i (suc result.last) (length p - 1) result.response) }
+        → BeginsAt (plan_tasks plan.now) p i (suc result.last) (length p - 1) result.busy) }
     ensures moved { Moved (plan_tasks plan.now) i u.old u.new }
 {
     let k = u.len() - 1;
     let lowest = last_miss(plan, u, i, k, low, most, start);
     let last = last_miss_between(plan, u, i, k, most, lowest);
-    let response = if lowest.last < last {
+    let busy = if lowest.last < last {
         start
     } else {
-        lowest.response
+        lowest.busy
     };
-    Miss { last, response }
+    Miss { last, busy }
 }
 
-// As `last_miss`, of task i and all tasks below it; own is its response time, in which its own period has no part: it
-// meets its deadline from there on. The lowest one's climbs begin at start, or where `begin_below` says by own, if that
-// is later.
+// As `last_miss`, of task i and all tasks below it; own is its busy period, in which its own period has no part: it
+// meets its deadline from that and its jitter on. The lowest one's climbs begin at start, or where `begin_below` says by
+// own, if that is later.
 pub fn last_miss_from(
     plan: &Plan,
     u: &mut [u32],
@@ -140,22 +143,23 @@ pub fn last_miss_from(
     ensures is { let n = length u.old in
         LastMiss (plan_tasks plan.now) u.old i i n low most result.last }
     ensures begins { let p = u.old in (result.last < most
-        → BeginsAt (plan_tasks plan.now) p i (suc result.last) (length p - 1) result.response) }
+        → BeginsAt (plan_tasks plan.now) p i (suc result.last) (length p - 1) result.busy) }
     ensures moved { Moved (plan_tasks plan.now) i u.old u.new }
 {
-    let from = low.max(own - 1);
+    let task = &plan.tasks[i];
+    let from = low.max(own + task.jitter - 1);
     let lowest = u.len() - 1;
     if lowest <= i {
         return Miss {
             last: from,
-            response: start,
+            busy: start,
         };
     }
-    let begin = begin_below(&plan.tasks[lowest], &plan.tasks[i], own);
+    let begin = begin_below(&plan.tasks[lowest], task, own);
     last_miss_below(plan, u, i, from, most, start.max(begin))
 }
 
-// Where the climbs of the lowest task may begin before any of its response times is known.
+// Where the climbs of the lowest task may begin before any of its busy periods is known.
 pub fn lowest_start(plan: &Plan) -> u32
     ensures { let ts = plan_tasks plan.now in result ≡ own_demand (task_at ts (length ts - 1)) }
 {

@@ -31,6 +31,7 @@ use Rattle.optimizer.proofs.Improving.{incumbent-first, lawful-incumbent}
 use Rattle.optimizer.proofs.Guarantees.{search-carried}
 use Rattle.optimizer.proofs.Settled.{of_two, sound, feasible, tasks-pass, tasks-break, settles-refused, settles-searched}
 use Rattle.optimizer.proofs.Concluding.{searched-number, error-some, call-file, called-refused}
+use Rattle.optimizer.proofs.ExactRelease.{exact-answers, best-answers}
 
 -- the search with the incumbent and without it
 module _ (ts : List Task) (budget room : ℕ) where
@@ -94,7 +95,9 @@ module _ (f : Fault) (ts : List Task) (v : AllValid ts) (budget : ℕ) (o o' w w
   pub plans : Leaves false (called f ts (length o) (length w) (searched (weights ts) (e ts budget room))) o o' w w' r
       → Plans f ts budget o o' w w' r
   unfolding outcome_of
-  plans a = let b = rw (searched-as ts budget room) at a in record { answers = b; settles = λ t. settled (rw t at b) }
+  plans a =
+      let b = rw (searched-as ts budget room) at a in
+      record { answers = b; settles = λ t. settled (rw t at b); exact_release = λ n. exact-answers ts n f budget o w b }
 
   -- BEST, where it searches
   module _ (t : schedulable ts (period_maxs ts) ≡ true)
@@ -154,6 +157,7 @@ module _ (f : Fault) (ts : List Task) (v : AllValid ts) (budget : ℕ) (o o' w w
     answers = a;
     settles = λ t. best-settled (rw t at a);
     as_cheapest = rw a.answer (called-course f ts (length o) (length w) _ _ (best-course ts budget room));
+    exact_release = λ n. best-answers ts n f budget o w a;
   }
 
 -- a file's own refusal
@@ -166,12 +170,15 @@ module _ (e : CallError) {f : Fault} (q : call_error_fault e ≡ f) (ts : List T
 
   pub plans-refused : Plans f ts budget o o w w (refused_answer (call_error_fault e))
   unfolding outcome_of
-  plans-refused = record { answers = called-refused e false f ts _ refuses; settles = λ t. absurd (never t) }
+  plans-refused =
+      let a = called-refused e false f ts _ refuses in
+      record { answers = a; settles = λ t. absurd (never t); exact_release = λ n. exact-answers ts n f budget o w a }
 
   pub best-plans-refused : BestPlans f ts budget o o w w (refused_answer (call_error_fault e))
   unfolding outcome_of best_outcome_of
-  best-plans-refused = record {
-    answers = called-refused e true f ts _ refuses;
+  best-plans-refused = let a = called-refused e true f ts _ refuses in record {
+    answers = a;
     settles = λ t. absurd (never t);
     as_cheapest = rw (← refuses, ne_eqb _ 0 (error-some e)) (record { fault = refl; rounds = refl; bound = refl });
+    exact_release = λ n. best-answers ts n f budget o w a;
   }

@@ -3,9 +3,8 @@ use mathlib.Core.Path.{◌≡◌, sym, ap, ◌∙◌, subst}
 use mathlib.Core.Bool.{Bool, true, false, not}
 use mathlib.Core.Logic.{◌⊎◌, inl, inr}
 use mathlib.Core.List.{List}
-use Prim.Native.Nat.{ℕ, suc, ◌≤◌, ◌<◌}
+use Prim.Native.Nat.{ℕ, suc, ◌+◌, ◌≤◌, ◌<◌}
 use native.Mathlib.Omega.{arith}
-use lib.Dec.{ltb}
 use lib.ListN.{length}
 use borrow.Author.Tests.{eq-eqb, ltb-true, not-false}
 use Rattle.plan.specs.declared.tasks.Task.{Task}
@@ -14,17 +13,17 @@ use Rattle.plan.specs.Faults.{first_from}
 use Rattle.plan.specs.Tasks.{task_at, AllValid, period_maxs, weights}
 use Rattle.plan.proofs.Tests.{bool, eq-or-ne, both}
 use Rattle.plan.proofs.Rules.{or-second, or-next, or-here, if-passed, run-some}
-use Rattle.response.specs.Analysis.{own_demand, deadline, deadline_at, schedulable}
+use Rattle.response.specs.Analysis.{own_demand, deadline_at, schedulable}
 use Rattle.response.specs.Assignments.{within_bounds}
 use Rattle.response.proofs.Bounds.{within-true, maxs-within, true-within}
-use Rattle.response.proofs.Exactness.{response-past}
+use Rattle.response.proofs.Exactness.{own-some, busy-past}
 use Rattle.response.proofs.Slack.{misses-none}
 use Rattle.response.proofs.Sustainable.{schedulable-none, schedulable-covers, covers-schedulable}
 use Rattle.response.proofs.Ranges.{max-at, ranged, sustainable-within}
 use Rattle.optimizer.specs.Rule.{Rule, search_from}
 use Rattle.optimizer.specs.Search.{start}
 use Rattle.optimizer.specs.Claims.{Feasible, Infeasible, IsNone, Settles}
-use Rattle.optimizer.specs.Promises.{alone_fault, none_fault, infeasible_fault, refused, searched}
+use Rattle.optimizer.specs.Promises.{infeasible_alone, alone_fault, none_fault, infeasible_fault, refused, searched}
 use Rattle.optimizer.proofs.Optimal.{Lawful, Optimal}
 use Rattle.optimizer.proofs.Branching.{Sound}
 use Rattle.optimizer.proofs.Guarantees.{search-optimal, search-rounds, search-answers, search-budget}
@@ -45,9 +44,12 @@ module _ (ts : List Task) where
 
   alone-number : AllValid ts → (i : ℕ) → ((alone_fault ts i).number ≡ 0 → ⊥) → i < length ts
       → ((alone_fault ts i).number ≡ 31) × (longest ≡ false)
-  alone-number v i h l = elim (bool (ltb (deadline (task_at ts i) (task_at ts i).period_max) (own_demand (task_at ts i)))) [
-    | inl t ↦ let short : deadline_at ts (period_maxs ts) i < own_demand (task_at ts i) = rw (max-at ts i) (ltb-true _ _ t) in
-        let late = misses-none ts (period_maxs ts) i (v i l) (response-past _ ts (period_maxs ts) i short) in
+  alone-number v i h l = elim (bool (infeasible_alone (task_at ts i))) [
+    | inl t ↦
+        let task = task_at ts i in
+        let short : deadline_at ts (period_maxs ts) i < own_demand task + task.jitter = rw (max-at ts i) (ltb-true _ _ t) in
+        let past = busy-past _ ts (period_maxs ts) i (own-some ts v i l) short in
+        let late = misses-none ts (period_maxs ts) i (v i l) past in
         (rw t, schedulable-none ts (period_maxs ts) i l late)
     | inr t ↦ absurd (h (rw t))
   ]

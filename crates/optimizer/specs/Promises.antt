@@ -1,5 +1,5 @@
 -- What CHEAPEST and BEST promise, of any bytes, budget and spaces.
-use Rattle.std.specs.Prelude.{◌≡◌, Bool, true, not, ◌||◌, cond, List, [], ◌∷◌, ℕ, suc, ◌/◌, eqb, ltb, leb, length, replicate}
+use Rattle.std.specs.Prelude.{◌≡◌, Bool, true, not, ◌||◌, cond, List, [], ◌∷◌, ℕ, suc, ◌+◌, ◌/◌, eqb, ltb, leb, length, replicate}
 use Rattle.plan.specs.declared.faults.Fault.{Fault}
 use Rattle.plan.specs.declared.tasks.Task.{Task}
 use Rattle.plan.specs.Faults.{fault, fault_if, passed, or_else, first_fault, first_from}
@@ -7,10 +7,11 @@ use Rattle.plan.specs.Tasks.{task_at, period_maxs, weights}
 use Rattle.plan.specs.Files.{file_fault, tasks_of}
 use Rattle.response.specs.Analysis.{own_demand, deadline, schedulable, slack_list, first_missed}
 use Rattle.response.specs.Assignments.{cost}
+use Rattle.response.specs.ExactRelease.{WithoutJitter, exact_slack_list, exact_schedulable}
 use Rattle.response.specs.Promises.{space_fault}
 use Rattle.optimizer.specs.declared.conclusion.Answer.{Answer}
-use Rattle.optimizer.specs.Rule.{End}
-use Rattle.optimizer.specs.Search.{search, incumbent_search}
+use Rattle.optimizer.specs.Rule.{End, search_from}
+use Rattle.optimizer.specs.Search.{rule, start, search, incumbent_rule, incumbent_search}
 use Rattle.optimizer.specs.Claims.{Settles, Improves}
 
 -- "24: work space shorter than n. Place 0."
@@ -21,10 +22,10 @@ work_fault ts work = fault_if (ltb work (length ts)) 24 0
 unfoldable pub call_fault : Fault → List Task → ℕ → ℕ → Fault
 call_fault f ts space work = first_fault (f ∷ space_fault ts space ∷ work_fault ts work ∷ [])
 
--- "31 'lone': C above the smaller of hi and cap. Place: first such job."; "Hold is added .. in the lone rule": its own
--- demand above its deadline at its longest period
+-- "31 'lone': C above the smaller of hi and cap. Place: first such job."; "Hold is added .. in the lone rule"; "The lone
+-- rule adds late to work and hold.": its own demand and its jitter above its deadline at its longest period
 abbrev pub infeasible_alone : Task → Bool
-infeasible_alone t = ltb (deadline t t.period_max) (own_demand t)
+infeasible_alone t = ltb (deadline t t.period_max) (own_demand t + t.jitter)
 
 abbrev pub alone_fault : List Task → ℕ → Fault
 alone_fault ts i = fault_if (infeasible_alone (task_at ts i)) 31 (suc i)
@@ -95,12 +96,37 @@ pub record Answers (x : Outcome) (p o' w w' : List ℕ) (r : Answer) : Type 0 wh
   pub periods : o' ≡ p
   pub work : w' ≡ cleared x w
 
+-- Without jitter: "plans without late keep their answers", those by the time test of exact release. 31 and 32 by it
+abbrev pub exact_alone_fault : List Task → ℕ → Fault
+exact_alone_fault ts i =
+    let t = task_at ts i in fault_if (ltb (deadline t t.period_max) (own_demand t)) 31 (suc i)
+
+abbrev pub exact_none_fault : List Task → Fault
+exact_none_fault ts =
+    fault_if (not (exact_schedulable ts (period_maxs ts))) 32 (first_missed (exact_slack_list ts (period_maxs ts)))
+
+unfoldable pub exact_infeasible_fault : List Task → Fault
+exact_infeasible_fault ts = or_else (first_from (exact_alone_fault ts) (length ts) 0) (exact_none_fault ts)
+
+-- the rules in their order, then what the search by that test comes to
+abbrev pub exact_called : Fault → List Task → ℕ → ℕ → Outcome → Outcome
+exact_called f ts space work x =
+    let g = or_else (call_fault f ts space work) (exact_infeasible_fault ts) in cond (passed g) x (refused g)
+
+unfoldable pub exact_outcome_of : Fault → List Task → ℕ → ℕ → ℕ → Outcome
+exact_outcome_of f ts budget space work =
+    let e = search_from (rule ts (exact_schedulable ts)) budget (room_of ts work) 0 tt (start ts) in
+    exact_called f ts space work (searched (weights ts) e)
+
 -- CHEAPEST, of a file's fault and tasks
 pub record Plans (f : Fault) (ts : List Task) (budget : ℕ) (o o' w w' : List ℕ) (r : Answer) : Type 0 where
   pub answers : let x = outcome_of f ts budget (length o) (length w) in Answers x (written x o) o' w w' r
   -- demand 3
   pub settles : passed (call_fault f ts (length o) (length w)) ≡ true
       → Settles ts budget (room_of ts (length w)) r o'
+  -- "Exact release in 01 is now the case of late 0."
+  pub exact_release : WithoutJitter ts
+      → let x = exact_outcome_of f ts budget (length o) (length w) in Answers x (written x o) o' w w' r
 
 -- BEST's outcome of a search's end: with a stop "the point's space holds the best and the answer gives its cost"
 abbrev pub best_searched : List ℕ → End (List ℕ) → Outcome
@@ -112,6 +138,12 @@ best_searched ws e = let xs = cond (eqb e.number 0) e.periods e.state in record 
 unfoldable pub best_outcome_of : Fault → List Task → ℕ → ℕ → ℕ → Outcome
 best_outcome_of f ts budget space work =
     called f ts space work (best_searched (weights ts) (incumbent_search ts budget (room_of ts work)))
+
+unfoldable pub exact_best_outcome_of : Fault → List Task → ℕ → ℕ → ℕ → Outcome
+exact_best_outcome_of f ts budget space work =
+    let R = incumbent_rule ts (exact_schedulable ts) in
+    let e = search_from R budget (room_of ts work) 0 (period_maxs ts) (start ts) in
+    exact_called f ts space work (best_searched (weights ts) e)
 
 -- the periods' space is written with an answer, 33 and 34
 abbrev pub best_written : Outcome → List ℕ → List ℕ
@@ -131,3 +163,5 @@ pub record BestPlans (f : Fault) (ts : List Task) (budget : ℕ) (o o' w w' : Li
       → Settles ts budget (room_of ts (length w)) r o' × Improves ts r o'
   -- "an operation beside CHEAPEST": what CHEAPEST's answer says to the same call, but for the cost of a stop
   pub as_cheapest : SameCourse r (outcome_of f ts budget (length o) (length w)).answer
+  pub exact_release : WithoutJitter ts
+      → let x = exact_best_outcome_of f ts budget (length o) (length w) in Answers x (best_written x o) o' w w' r

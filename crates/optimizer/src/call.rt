@@ -14,12 +14,12 @@ use boundary::Node;
 use plan::{Plan, Task};
 use response::{Assignment, deadline, own_demand};
 
-// Whether a task's own demand exceeds its deadline at its longest period.
+// Whether a task's own demand and its jitter exceed its deadline at its longest period.
 fn infeasible_alone(task: &Task) -> bool
     requires { Valid task.now }
     ensures { result ≡ infeasible_alone task.now }
 {
-    deadline(task, task.period_max) < own_demand(task)
+    deadline(task, task.period_max) < own_demand(task) + task.jitter
 }
 
 // Rule 31: the first such task.

@@ -21,7 +21,9 @@ module _ (ts : List Task) where
   above-monotone : (xs : List ℕ) (i s t : ℕ) → s ≤ t → interference_above ts xs i s ≤ interference_above ts xs i t
   above-monotone xs zero s t h = omega arith
   above-monotone xs (suc j) s t h =
-      omega (arith, above-monotone xs j s t h, mul-le-mul_left (task_at ts j).wcet (ceiling-monotone s t (get_or xs j 0) h))
+      let late = (task_at ts j).jitter in
+      let more = ceiling-monotone (s + late) (t + late) (get_or xs j 0) (omega arith) in
+      omega (arith, above-monotone xs j s t h, mul-le-mul_left (task_at ts j).wcet more)
 
   pub demand-monotone : (xs : List ℕ) (i s t : ℕ) → s ≤ t → demand ts xs i s ≤ demand ts xs i t
   unfolding demand
@@ -61,7 +63,8 @@ module _ (ts : List Task) where
   pub demand-antitone : (xs ys : List ℕ) (i t : ℕ)
       → ((k : ℕ) → k < i → 1 ≤ get_or xs k 0) → ((k : ℕ) → k < i → get_or xs k 0 ≤ get_or ys k 0)
       → demand ts ys i t ≤ demand ts xs i t
-  demand-antitone xs ys i t p h = demand-less xs ys i t (λ k l. ceiling-antitone t (get_or xs k 0) (get_or ys k 0) (p k l) (h k l))
+  demand-antitone xs ys i t p h = demand-less xs ys i t
+      (λ k l. ceiling-antitone (t + (task_at ts k).jitter) (get_or xs k 0) (get_or ys k 0) (p k l) (h k l))
 
   pub demand_own : (xs : List ℕ) (i t : ℕ) → own_demand (task_at ts i) ≤ demand ts xs i t
   unfolding demand
@@ -85,7 +88,9 @@ module _ (ts : List Task) where
     above-demand j zero l p = let z : ⊥ = omega arith in absurd z
     above-demand j (suc i) l p =
         elim (eq-or-ne j i) [
-          | inl e ↦ rw e (omega (arith, mul-le-mul_left (task_at ts i).wcet (ceiling-some t (get_or xs i 0) s (p i (omega arith)))))
+          | inl e ↦
+              let some = ceiling-some (t + (task_at ts i).jitter) (get_or xs i 0) (omega arith) (p i (omega arith)) in
+              rw e (omega (arith, mul-le-mul_left (task_at ts i).wcet some))
           | inr n ↦ omega (arith, above-demand j i (omega arith) (λ k h. p k (omega arith)))
         ]
 

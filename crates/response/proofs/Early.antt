@@ -9,12 +9,12 @@ use lib.ListN.{length}
 use Rattle.plan.specs.declared.tasks.Task.{Task}
 use Rattle.plan.specs.Tasks.{AllValid}
 use Rattle.response.specs.Analysis.{first_meet, schedulable}
-use Rattle.response.specs.Inner.{response_in_time}
+use Rattle.response.specs.Inner.{busy_in_time}
 use Rattle.response.proofs.Slack.{meets-in-time}
 
 abbrev pub first_in_time : List Task → List ℕ → ℕ → Bool
 first_in_time ts xs zero = true
-first_in_time ts xs (suc i) = first_in_time ts xs i && leb 1 (response_in_time ts xs i)
+first_in_time ts xs (suc i) = first_in_time ts xs i && leb 1 (busy_in_time ts xs i)
 
 abbrev pub in_time : List Task → List ℕ → Bool
 in_time ts xs = first_in_time ts xs (length ts)

@@ -15,9 +15,10 @@ use Rattle.response.proofs.Ceiling.{le-ceiling}
 
 utilization-le : (task : Task) (p t : ℕ) → 1 ≤ p → utilization task p * t ≤ interference task p t * whole
 utilization-le task p t s =
-    let c = ceiling t p in
+    let c = ceiling (t + task.jitter) p in
+    let by : t ≤ c * p = omega (arith, le-ceiling (t + task.jitter) p s) in
     let part : utilization task p * p ≤ task.wcet * whole = omega (arith, div-add-mod' (task.wcet * whole) p) in
-    omega (arith, mul-le-mul_left (utilization task p) (le-ceiling t p s), mul-le-mul_left c part)
+    omega (arith, mul-le-mul_left (utilization task p) by, mul-le-mul_left c part)
 
 module _ (ts : List Task) (xs : List ℕ) (t : ℕ) where
   above-le : (i : ℕ) → ((k : ℕ) → k < i → 1 ≤ get_or xs k 0) → utilization_above ts xs i * t ≤ interference_above ts xs i t * whole
@@ -39,7 +40,7 @@ module _ (ts : List Task) (xs : List ℕ) (t : ℕ) where
 pub utilization-begins : {ts : List Task} {xs : List ℕ} → Limits ts xs → {i : ℕ} → i < length xs → {own above limit t : ℕ}
     → own ≡ own_demand (task_at ts i) → above ≡ utilization_above ts xs i → BeginsByUtilization own above limit t → Begins limit ts xs i t
 utilization-begins {ts} {xs} l {i} h o e b =
-    record { some = b.some; below = λ s c. b.below s c.early (rw (o, e) (above-covers ts xs s i (λ k d. l.some k (omega arith)) c.covers)) }
+    record { some = b.some; below = λ s c. b.below s (omega (arith, c.early)) (rw (o, e) (above-covers ts xs s i (λ k d. l.some k (omega arith)) c.covers)) }
 
 -- that is the own demand over the idle part
 module _ {own above limit : ℕ} (w : 1 ≤ own) where

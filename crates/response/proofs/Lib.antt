@@ -8,6 +8,7 @@ mod Idle  -- what the tasks above leave of the processor
 pub mod Sustainable  -- meeting deadlines, and raising periods
 pub mod Early  -- the time test as examples compute it
 pub mod Missed  -- the first task that misses its deadline
+pub mod ExactRelease  -- plans without jitter
 pub mod Answers  -- the list of slacks
 pub mod Limits  -- what the time test asks, as a period is set
 pub mod Dominance  -- assignments compared period by period, and list equality

@@ -22,6 +22,7 @@ use Rattle.response.proofs.Bounds.{Within}
 use Rattle.response.proofs.Slack.{slack-exact}
 use Rattle.response.proofs.Ranges.{min-at, max-at, some-within, limits-within}
 use Rattle.response.proofs.Answers.{slacks-length, slacks-at}
+use Rattle.response.proofs.ExactRelease.{exact-slacks}
 
 -- rules 21 to 23 of a count of tasks, by the first of them that may be broken
 module _ (ts : List Task) (xs : List ℕ) (space : ℕ) {count : ℕ} (k : count ≡ length ts) where
@@ -95,4 +96,5 @@ analysed {f} {ts} {xs} {o} a {g} e v z w is =
       answer = rw (p, t, ← w) is;
       slacks = rw (p, t);
       exact = λ _ i l. rw (slacks-at ts xs i l) (slack-exact ts xs i (v i l) (some-within ts v within i l));
+      exact_release = λ _ n. exact-slacks ts n xs;
     })

@@ -3,7 +3,7 @@ use mathlib.Core.Path.{◌≡◌, refl, ◌∙◌}
 use mathlib.Core.Bool.{true, false, not}
 use mathlib.Core.Logic.{inl, inr}
 use mathlib.Core.List.{List}
-use Prim.Native.Nat.{ℕ, zero, suc, ◌≤◌, ◌<◌}
+use Prim.Native.Nat.{ℕ, zero, suc, ◌+◌, ◌≤◌, ◌<◌}
 use native.Mathlib.Omega.{arith}
 use lib.Dec.{leb}
 use lib.ListN.{get_or}
@@ -13,35 +13,36 @@ use Rattle.std.proofs.lemmas.Int.{ints}
 use Rattle.plan.specs.declared.tasks.Task.{Task}
 use Rattle.plan.specs.Tasks.{task_at, Valid}
 use Rattle.plan.proofs.Tests.{le-or-lt, not-false}
-use Rattle.response.specs.Analysis.{deadline_at, max_response, response_time, no_slack, slack_of, slack, meets}
+use Rattle.response.specs.Analysis.{deadline_at, busy_up_to, max_response, response_of, no_slack, slack_of, slack, meets}
 use Rattle.response.specs.Claims.{Covers, IsSlack}
-use Rattle.response.specs.Inner.{response_in_time}
-use Rattle.response.proofs.Exactness.{IsResponse, response-exact}
+use Rattle.response.specs.Inner.{busy_in_time}
+use Rattle.response.proofs.Exactness.{IsBusy, busy-exact}
 
 -- below 0, or 0 or more
 pub late-not : (s : ℤ) → int_lt s (pos 0) ≡ not (int_le (pos 0) s)
 late-not s = grind (arith, ints)
 
-pub slack-is : (d r : ℕ) → 1 ≤ r → slack_of d r ≡ pos d -ℤ pos r
-slack-is d zero h = let z : ⊥ = omega arith in absurd z
-slack-is d (suc r) h = refl
+-- by the busy period
+pub slack-is : (task : Task) (d r : ℕ) → 1 ≤ r → slack_of d (response_of task r) ≡ pos d -ℤ pos (r + task.jitter)
+slack-is task d zero h = let z : ⊥ = omega arith in absurd z
+slack-is task d (suc r) h = let e : suc r + task.jitter ≡ suc (r + task.jitter) = omega arith in rw e refl
 
-slack-none : (d r : ℕ) → r < 1 → slack_of d r ≡ no_slack
-slack-none d zero h = refl
-slack-none d (suc r) h = let z : ⊥ = omega arith in absurd z
+slack-none : (task : Task) (d r : ℕ) → r < 1 → slack_of d (response_of task r) ≡ no_slack
+slack-none task d zero h = refl
+slack-none task d (suc r) h = let z : ⊥ = omega arith in absurd z
 
 module _ (ts : List Task) (xs : List ℕ) (i : ℕ) (v : Valid (task_at ts i)) where
   abbrev d : ℕ
   d = deadline_at ts xs i
 
   abbrev r : ℕ
-  r = response_time ts xs i
+  r = busy_up_to max_response ts xs i
 
   abbrev s : ℤ
   s = slack ts xs i
 
-  any : IsResponse max_response ts xs i r
-  any = response-exact max_response ts xs i (omega (arith, v.wcet_some))
+  any : IsBusy max_response ts xs i r
+  any = busy-exact max_response ts xs i (omega (arith, v.wcet_some))
 
   -- a time up to the deadline is one up to the longest response
   up : {t : ℕ} → Covers d ts xs i t → Covers max_response ts xs i t
@@ -49,41 +50,41 @@ module _ (ts : List Task) (xs : List ℕ) (i : ℕ) (v : Valid (task_at ts i)) w
 
   -- the deadline is met exactly where a time up to it covers
   covers-slack : {t : ℕ} → Covers d ts xs i t → pos 0 ≤ℤ s
-  covers-slack {t} c = let l = any.least t (up c) in omega (arith, ints, slack-is d r l.0, l.1, c.early)
+  covers-slack {t} c = let l = any.least t (up c) in omega (arith, ints, slack-is (task_at ts i) d r l.0, l.1, c.early)
 
   slack-covers : pos 0 ≤ℤ s → Covers d ts xs i r
   slack-covers p = elim (le-or-lt 1 r) [
-    | inl h ↦ record { some = h; early = omega (arith, ints, slack-is d r h); covers = (any.covers h).covers }
-    | inr h ↦ let z : ⊥ = omega (arith, ints, slack-none d r h) in absurd z
+    | inl h ↦ record { some = h; early = omega (arith, ints, slack-is (task_at ts i) d r h); covers = (any.covers h).covers }
+    | inr h ↦ let z : ⊥ = omega (arith, ints, slack-none (task_at ts i) d r h) in absurd z
   ]
 
   -- the climb may be left past the deadline
-  pub meets-in-time : meets ts xs i ≡ leb 1 (response_in_time ts xs i)
+  pub meets-in-time : meets ts xs i ≡ leb 1 (busy_in_time ts xs i)
   meets-in-time =
-      let x = response-exact d ts xs i (omega (arith, v.wcet_some)) in
-      elim (le-or-lt 1 (response_in_time ts xs i)) [
-        | inl h ↦ rw (le-leb 1 (response_in_time ts xs i) h) (let p = covers-slack (x.covers h) in grind (arith, ints))
-        | inr h ↦ rw (lt-leb 1 (response_in_time ts xs i) h)
+      let x = busy-exact d ts xs i (omega (arith, v.wcet_some)) in
+      elim (le-or-lt 1 (busy_in_time ts xs i)) [
+        | inl h ↦ rw (le-leb 1 (busy_in_time ts xs i) h) (let p = covers-slack (x.covers h) in grind (arith, ints))
+        | inr h ↦ rw (lt-leb 1 (busy_in_time ts xs i) h)
             (not-false (λ e. let p : pos 0 ≤ℤ s = grind (arith, ints) in omega (arith, (x.least r (slack-covers p)).0)))
       ]
 
-  pub meets-responds : 1 ≤ response_in_time ts xs i → meets ts xs i ≡ true
-  meets-responds h = meets-in-time ∙ le-leb 1 (response_in_time ts xs i) h
+  pub meets-responds : 1 ≤ busy_in_time ts xs i → meets ts xs i ≡ true
+  meets-responds h = meets-in-time ∙ le-leb 1 (busy_in_time ts xs i) h
 
-  pub misses-none : response_in_time ts xs i ≡ 0 → meets ts xs i ≡ false
-  misses-none e = meets-in-time ∙ lt-leb 1 (response_in_time ts xs i) (omega arith)
+  pub misses-none : busy_in_time ts xs i ≡ 0 → meets ts xs i ≡ false
+  misses-none e = meets-in-time ∙ lt-leb 1 (busy_in_time ts xs i) (omega arith)
 
   pub slack-exact : 1 ≤ get_or xs i 0 → IsSlack ts xs i s
   slack-exact p = elim (le-or-lt 1 r) [
     | inl h ↦
-        let e = slack-is d r h in
+        let e = slack-is (task_at ts i) d r h in
         let c = any.covers h in
         let d-some : 1 ≤ d = omega (arith, v.cap_some) in
         record {
-          met = λ q. record { response = r; covers = slack-covers q; least = λ t k. (any.least t (up k)).1; is = e };
+          met = λ q. record { busy = r; covers = slack-covers q; least = λ t k. (any.least t (up k)).1; is = e };
           on_time = λ t. covers-slack;
           late = λ q z. (
-            record { response = r; covers = c; least = λ t k. (any.least t k).1; is = e },
+            record { busy = r; covers = c; least = λ t k. (any.least t k).1; is = e },
             λ t k. let w = covers-slack k in omega (arith, ints),
           );
           none = λ z. let w : ⊥ = omega (arith, ints, e, c.early) in absurd w;
@@ -91,7 +92,7 @@ module _ (ts : List Task) (xs : List ℕ) (i : ℕ) (v : Valid (task_at ts i)) w
           least = omega (arith, ints, e, c.early);
         }
     | inr h ↦
-        let e = slack-none d r h in
+        let e = slack-none (task_at ts i) d r h in
         record {
           met = λ q. let z : ⊥ = omega (arith, ints, e) in absurd z;
           on_time = λ t. covers-slack;

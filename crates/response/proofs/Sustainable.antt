@@ -1,51 +1,37 @@
 -- Meeting the deadline: which periods it reads, that raising a period keeps it ("the test is sustainable"), for one task and for all.
-use mathlib.Core.Path.{◌≡◌, refl, sym, ap, ◌∙◌}
+use mathlib.Core.Path.{◌≡◌, refl, sym, ap, ◌∙◌, fun_ext}
 use mathlib.Core.Bool.{true, false}
 use mathlib.Core.Logic.{inl, inr}
 use mathlib.Core.List.{List}
 use Prim.Native.Nat.{ℕ, zero, suc, ◌+◌, ◌-◌, ◌≤◌, ◌<◌}
 use native.Mathlib.Omega.{arith}
-use lib.Dec.{ltb, leb}
 use lib.ListN.{length, get_or, set}
 use lib.Seq.{get_or-set_other}
 use borrow.Author.Tests.{leb-true, le-leb}
 use Rattle.plan.specs.declared.tasks.Task.{Task}
 use Rattle.plan.specs.Tasks.{task_at, Valid, AllValid}
 use Rattle.plan.proofs.Tests.{le-or-lt, eq-or-ne, both, not-false, and_left, and_right, and_both}
-use Rattle.response.specs.Analysis.{own_demand, demand, deadline_at, climb_from, response_up_to, max_response}
+use Rattle.response.specs.Analysis.{own_demand, deadline_at, climb_from, busy_up_to, max_response}
 use Rattle.response.specs.Analysis.{meets, first_meet, schedulable}
 use Rattle.response.specs.Claims.{Covers}
-use Rattle.response.specs.Inner.{Begins, response_in_time}
+use Rattle.response.specs.Inner.{Begins, busy_in_time}
 use Rattle.response.proofs.Demand.{demand-antitone, demand-same, demand-above, demand_own, demand-monotone}
-use Rattle.response.proofs.Exactness.{IsResponse, response-exact}
+use Rattle.response.proofs.Exactness.{IsBusy, busy-exact}
 use Rattle.response.proofs.Slack.{meets-in-time}
-
--- a step of the climb, by what it reads: the limit, the demand, and what comes of climbing on
-turn : ℕ → ℕ → ℕ → ℕ → ℕ
-turn t d m r = elim (ltb d t) [ true ↦ 0 | false ↦ elim (leb m t) [ true ↦ t | false ↦ r ] ]
-
-turn-same : (t d : ℕ) {m n r s : ℕ} → m ≡ n → r ≡ s → turn t d m r ≡ turn t d n s
-turn-same t d q r = cc
 
 module _ (ts : List Task) where
   -- only periods up to task i's own count, and its own for its deadline
   module _ (xs ys : List ℕ) (i : ℕ) where
-    climb-same : ((k : ℕ) → k < i → get_or xs k 0 ≡ get_or ys k 0) → (left limit t : ℕ)
-        → climb_from left limit ts xs i t ≡ climb_from left limit ts ys i t
-    unfolding climb_from turn
-    climb-same h zero limit t = refl
-    climb-same h (suc left) limit t =
-        let m = demand-same ts xs ys i t h in
-        turn-same t limit m (ap (climb_from left limit ts xs i) m ∙ climb-same h left limit (demand ts ys i t))
-
-    pub response-same : ((k : ℕ) → k < i → get_or xs k 0 ≡ get_or ys k 0) → (limit : ℕ)
-        → response_up_to limit ts xs i ≡ response_up_to limit ts ys i
-    unfolding response_up_to
-    response-same h limit = climb-same h (suc limit) limit (own_demand (task_at ts i))
+    pub busy-same : ((k : ℕ) → k < i → get_or xs k 0 ≡ get_or ys k 0) → (limit : ℕ)
+        → busy_up_to limit ts xs i ≡ busy_up_to limit ts ys i
+    unfolding busy_up_to
+    busy-same h limit =
+        let task = task_at ts i in
+        ap (λ needs. climb_from (suc limit) (limit - task.jitter) needs (own_demand task)) (fun_ext (λ t. demand-same ts xs ys i t h))
 
     pub meets-same : ((k : ℕ) → k ≤ i → get_or xs k 0 ≡ get_or ys k 0) → meets ts xs i ≡ meets ts ys i
     meets-same h =
-        rw (h i (omega arith), response-same (λ k l. h k (omega arith)) max_response)
+        rw (h i (omega arith), busy-same (λ k l. h k (omega arith)) max_response)
 
     pub covers_up : (t : ℕ) → ((k : ℕ) → k < i → 1 ≤ get_or xs k 0) → ((k : ℕ) → k ≤ i → get_or xs k 0 ≤ get_or ys k 0)
         → Covers (deadline_at ts xs i) ts xs i t → Covers (deadline_at ts ys i) ts ys i t
@@ -63,19 +49,20 @@ module _ (ts : List Task) where
   module _ (xs : List ℕ) (j i : ℕ) (l : j < i) (p : (k : ℕ) → k < i → 1 ≤ get_or xs k 0)
       (o : (task_at ts j).blocking ≤ own_demand (task_at ts i)) where
     -- a time that covers the lower one's demand covers that of the one above
-    pub covers-above : {limit most t : ℕ} → t ≤ limit → Covers most ts xs i t → Covers limit ts xs j t
+    pub covers-above : {limit most t : ℕ} → t + (task_at ts j).jitter ≤ limit → Covers most ts xs i t → Covers limit ts xs j t
     covers-above {t = t} h c =
         record { some = c.some; early = h; covers = omega (arith, c.covers, demand-above ts xs t c.some j i l p) }
 
-    -- so the lower one responds no earlier than the one above without its blocking, and its own demand later
-    pub begins-below : 1 ≤ own_demand (task_at ts j) → {limit most r : ℕ} → r ≤ limit → Begins limit ts xs j r
+    -- so the busy period of the lower one is no shorter than that of the one above without its blocking, and its own
+    -- demand more
+    pub begins-below : 1 ≤ own_demand (task_at ts j) → {limit most r : ℕ} → r + (task_at ts j).jitter ≤ limit → Begins limit ts xs j r
         → Begins most ts xs i (r + (own_demand (task_at ts i) - (task_at ts j).blocking))
     begins-below w {limit} {r = r} h b = record {
       some = omega (arith, b.some);
       below = λ t c.
           let later = own_demand (task_at ts i) - (task_at ts j).blocking in
           let d = demand-above ts xs t c.some j i l p in
-          let early : r ≤ t - later = elim (le-or-lt (t - later) limit) [
+          let early : r ≤ t - later = elim (le-or-lt (t - later + (task_at ts j).jitter) limit) [
             | inl e ↦ b.below (t - later) (record {
               some = omega (arith, c.covers, demand_own ts xs j t);
               early = e;
@@ -88,19 +75,19 @@ module _ (ts : List Task) where
 
   -- a valid task meets its deadline exactly where some t covers
   module _ (i : ℕ) (v : Valid (task_at ts i)) (xs : List ℕ) where
-    timely : IsResponse (deadline_at ts xs i) ts xs i (response_in_time ts xs i)
-    timely = response-exact (deadline_at ts xs i) ts xs i (omega (arith, v.wcet_some))
+    timely : IsBusy (deadline_at ts xs i) ts xs i (busy_in_time ts xs i)
+    timely = busy-exact (deadline_at ts xs i) ts xs i (omega (arith, v.wcet_some))
 
-    pub meets-covers : meets ts xs i ≡ true → Covers (deadline_at ts xs i) ts xs i (response_in_time ts xs i)
-    meets-covers m = timely.covers (leb-true 1 (response_in_time ts xs i) (sym (meets-in-time ts xs i v) ∙ m))
+    pub meets-covers : meets ts xs i ≡ true → Covers (deadline_at ts xs i) ts xs i (busy_in_time ts xs i)
+    meets-covers m = timely.covers (leb-true 1 (busy_in_time ts xs i) (sym (meets-in-time ts xs i v) ∙ m))
 
     pub covers-meets : {t : ℕ} → Covers (deadline_at ts xs i) ts xs i t → meets ts xs i ≡ true
-    covers-meets {t} c = meets-in-time ts xs i v ∙ le-leb 1 (response_in_time ts xs i) (timely.least t c).0
+    covers-meets {t} c = meets-in-time ts xs i v ∙ le-leb 1 (busy_in_time ts xs i) (timely.least t c).0
 
   pub meets-up : (i : ℕ) → Valid (task_at ts i) → (xs ys : List ℕ)
       → ((k : ℕ) → k < i → 1 ≤ get_or xs k 0) → ((k : ℕ) → k ≤ i → get_or xs k 0 ≤ get_or ys k 0)
       → meets ts xs i ≡ true → meets ts ys i ≡ true
-  meets-up i v xs ys p h m = covers-meets i v ys (covers_up xs ys i (response_in_time ts xs i) p h (meets-covers i v xs m))
+  meets-up i v xs ys p h m = covers-meets i v ys (covers_up xs ys i (busy_in_time ts xs i) p h (meets-covers i v xs m))
 
   -- schedulable: every task meets its deadline
   module _ (xs : List ℕ) where
@@ -131,7 +118,7 @@ module _ (ts : List Task) where
   module _ (v : AllValid ts) where
     pub schedulable-covers : (xs : List ℕ) → schedulable ts xs ≡ true
         → (i : ℕ) → i < length ts → (t : ℕ) × Covers (deadline_at ts xs i) ts xs i t
-    schedulable-covers xs e i l = (response_in_time ts xs i, meets-covers i (v i l) xs (schedulable-all xs e i l))
+    schedulable-covers xs e i l = (busy_in_time ts xs i, meets-covers i (v i l) xs (schedulable-all xs e i l))
 
     pub covers-schedulable : (xs : List ℕ)
         → ((i : ℕ) → i < length ts → (t : ℕ) × Covers (deadline_at ts xs i) ts xs i t) → schedulable ts xs ≡ true

@@ -1,5 +1,5 @@
 -- The exact test of Lehoczky, Sha and Ding. Task i is counted from 0, the highest priority first.
-use Rattle.std.specs.Prelude.{Bool, true, false, ◌&&◌, cond, List, [], ◌∷◌, ℕ, zero, suc, ◌+◌, ◌*◌, ◌/◌, min, ltb, leb, length, get_or}
+use Rattle.std.specs.Prelude.{Bool, true, false, ◌&&◌, cond, List, [], ◌∷◌, ℕ, zero, suc, ◌+◌, ◌-◌, ◌*◌, ◌/◌, min, ltb, leb, length, get_or}
 use Rattle.std.specs.Prelude.{ℤ, pos, neg_ℤ, ◌-ℤ◌, int_lt, int_le}
 use Rattle.plan.specs.declared.tasks.Task.{Task}
 use Rattle.plan.specs.Lists.{tabulate}
@@ -14,11 +14,11 @@ ceiling a (suc p) = (a + p) / suc p
 abbrev pub own_demand : Task → ℕ
 own_demand task = task.wcet + task.blocking
 
--- "(t over its period, rounded up)": how often a task with a period is released before time t
+-- "A job j above counts (t + late_j) / x_j rounded up": how often a task with a period may be released before time t
 abbrev pub releases : Task → ℕ → ℕ → ℕ
-releases task period t = ceiling t period
+releases task period t = ceiling (t + task.jitter) period
 
--- "that job's work times (t over its period, rounded up)"
+-- "that job's work times" these
 abbrev pub interference : Task → ℕ → ℕ → ℕ
 interference task period t = task.wcet * releases task period t
 
@@ -39,27 +39,30 @@ deadline_at ts xs i = deadline (task_at ts i) (get_or xs i 0)
 
 -- "The search for t climbs from the job's own work and stops at the first t that covers its own demand, or past" a
 -- limit; 0 past it
-unfoldable pub climb_from : ℕ → ℕ → List Task → List ℕ → ℕ → ℕ → ℕ
-climb_from zero limit ts xs i t = 0
-climb_from (suc left) limit ts xs i t =
+unfoldable pub climb_from : ℕ → ℕ → (ℕ → ℕ) → ℕ → ℕ
+climb_from zero limit needs t = 0
+climb_from (suc left) limit needs t =
     elim (ltb limit t) [
       | true ↦ 0
-      | false ↦ elim (leb (demand ts xs i t) t) [
-        | true ↦ t
-        | false ↦ climb_from left limit ts xs i (demand ts xs i t)
-      ]
+      | false ↦ elim (leb (needs t) t) [ true ↦ t | false ↦ climb_from left limit needs (needs t) ]
     ]
 
-unfoldable pub response_up_to : ℕ → List Task → List ℕ → ℕ → ℕ
-response_up_to limit ts xs i = climb_from (suc limit) limit ts xs i (own_demand (task_at ts i))
+-- the field's busy period: the t at which "t plus its own late" is up to a limit; 0 where there is none
+unfoldable pub busy_up_to : ℕ → List Task → List ℕ → ℕ → ℕ
+busy_up_to limit ts xs i =
+    let task = task_at ts i in climb_from (suc limit) (limit - task.jitter) (demand ts xs i) (own_demand task)
 
--- "The response is now the least t up to 2,000,000"
+-- "E4's ceiling of 2,000,000"
 abbrev pub max_response : ℕ
 max_response = 2000000
 
--- "Its response time is the least such t"; 0 where there is none
+-- "A job's response is t plus its own late"; 0 where there is none
+abbrev pub response_of : Task → ℕ → ℕ
+response_of task zero = 0
+response_of task (suc t) = suc t + task.jitter
+
 abbrev pub response_time : List Task → List ℕ → ℕ → ℕ
-response_time ts xs i = response_up_to max_response ts xs i
+response_time ts xs i = response_of (task_at ts i) (busy_up_to max_response ts xs i)
 
 -- "If there is none, write −2,000,000, which no real slack reaches."
 abbrev pub no_slack : ℤ

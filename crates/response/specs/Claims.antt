@@ -1,26 +1,28 @@
 -- Demand 2, of the definitions: "a job's time is the least whole number of ticks t, from 1 to the smaller of its period
 -- and its cap, covering its own work plus, for each job above it, that job's work times (t over its period, rounded
--- up)"; and what a slack says of it.
-use Rattle.std.specs.Prelude.{◌≡◌, ℕ, ◌≤◌, List, ℤ, pos, ◌-ℤ◌, ◌≤ℤ◌, ◌<ℤ◌}
+-- up)"; "A job j above counts (t + late_j) / x_j rounded up. A job's response is t plus its own late, and that sum is
+-- held against the deadline"; and what a slack says of it.
+use Rattle.std.specs.Prelude.{◌≡◌, ℕ, ◌+◌, ◌≤◌, List, ℤ, pos, ◌-ℤ◌, ◌≤ℤ◌, ◌<ℤ◌}
 use Rattle.plan.specs.declared.tasks.Task.{Task}
+use Rattle.plan.specs.Tasks.{task_at}
 use Rattle.response.specs.Analysis.{demand, deadline_at, max_response, no_slack}
 
--- t, from 1 to a limit, covers task i's demand
+-- t, from 1 on, covers task i's demand, and t plus the task's jitter is at most a limit
 pub record Covers (limit : ℕ) (ts : List Task) (xs : List ℕ) (i t : ℕ) : Type 0 where
   pub some : 1 ≤ t
-  pub early : t ≤ limit
+  pub early : t + (task_at ts i).jitter ≤ limit
   pub covers : demand ts xs i t ≤ t
 
 -- no t does
 abbrev pub NoneCovers : ℕ → List Task → List ℕ → ℕ → Type 0
 NoneCovers limit ts xs i = (t : ℕ) → Covers limit ts xs i t → ⊥
 
--- some t does, and s is task i's deadline minus the least
+-- some t does, and s is task i's deadline minus the least response
 pub record SlackUpTo (limit : ℕ) (ts : List Task) (xs : List ℕ) (i : ℕ) (s : ℤ) : Type 0 where
-  pub response : ℕ
-  pub covers : Covers limit ts xs i response
-  pub least : (t : ℕ) → Covers limit ts xs i t → response ≤ t
-  pub is : s ≡ pos (deadline_at ts xs i) -ℤ pos response
+  pub busy : ℕ
+  pub covers : Covers limit ts xs i busy
+  pub least : (t : ℕ) → Covers limit ts xs i t → busy ≤ t
+  pub is : s ≡ pos (deadline_at ts xs i) -ℤ pos (busy + (task_at ts i).jitter)
 
 -- s is task i's slack
 pub record IsSlack (ts : List Task) (xs : List ℕ) (i : ℕ) (s : ℤ) : Type 0 where

@@ -2,13 +2,13 @@
 use Rattle.std.specs.Prelude.{◌≡◌, List, ℕ, zero, suc, ◌+◌, ◌*◌, ◌/◌, ◌≤◌, ◌<◌, length, get_or, Option, Some, None}
 use Rattle.plan.specs.declared.tasks.Task.{Task}
 use Rattle.plan.specs.Tasks.{max_tasks, max_ticks, task_at, Valid, AllValid}
-use Rattle.response.specs.Analysis.{deadline_at, max_response, response_up_to}
+use Rattle.response.specs.Analysis.{deadline_at, max_response, busy_up_to}
 use Rattle.response.specs.Claims.{Covers}
 
--- the response time of a task that meets its deadline, 0 for one that misses it: whether it does is known once the
+-- the busy period of a task that meets its deadline, 0 for one that misses it: whether it does is known once the
 -- deadline is passed
-abbrev pub response_in_time : List Task → List ℕ → ℕ → ℕ
-response_in_time ts xs i = response_up_to (deadline_at ts xs i) ts xs i
+abbrev pub busy_in_time : List Task → List ℕ → ℕ → ℕ
+busy_in_time ts xs i = busy_up_to (deadline_at ts xs i) ts xs i
 
 -- what the time test asks: valid tasks, and as many periods, none of them 0, so that no sum and no product wraps
 pub record Limits (ts : List Task) (xs : List ℕ) : Type 0 where
@@ -54,7 +54,7 @@ pub record BeginsByUtilization (own above limit t : ℕ) : Type 0 where
   pub some : 1 ≤ t
   pub below : (s : ℕ) → s ≤ limit → own * whole + above * s ≤ s * whole → t ≤ s
 
--- a response time that is 0 where there is none, and a task, counted from 1, that is 0 where there is none
+-- a time that is 0 where there is none, and a task, counted from 1, that is 0 where there is none
 abbrev pub some_time : ℕ → Option ℕ
 some_time zero = None
 some_time (suc t) = Some (suc t)

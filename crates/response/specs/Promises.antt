@@ -9,6 +9,7 @@ use Rattle.response.specs.declared.errors.TimesError.{TimesError}
 use Rattle.response.specs.Errors.{times_error_fault}
 use Rattle.response.specs.Analysis.{slack_list, missed_count, first_missed}
 use Rattle.response.specs.Claims.{IsSlack}
+use Rattle.response.specs.ExactRelease.{WithoutJitter, exact_slack_list}
 
 -- "21: point not n long (TIMES). Place 0."
 abbrev pub period_count_fault : List Task → List ℕ → Fault
@@ -64,3 +65,6 @@ pub record Analyses (f : Fault) (ts : List Task) (xs : List ℕ) (o o' : List �
   -- demand 2, of each number written
   pub exact : passed (times_fault f ts xs (length o)) ≡ true → (i : ℕ) → i < length ts
       → IsSlack ts xs i (get_or o' i (pos 0))
+  -- "Exact release in 01 is now the case of late 0."
+  pub exact_release : passed (times_fault f ts xs (length o)) ≡ true → WithoutJitter ts
+      → o' ≡ exact_slack_list ts xs

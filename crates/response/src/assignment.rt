@@ -21,7 +21,7 @@ pub struct Assignment<'a> {
 impl<'a> Assignment<'a> {
     ghost use Rattle.std.specs.Prelude.{◌≡◌, ◌≤◌, ◌<◌, length, IfSome};
     ghost use Rattle.plan.specs.Promises.{plan_tasks};
-    ghost use Rattle.response.specs.Analysis.{demand, response_up_to, max_response, response_time, deadline_at};
+    ghost use Rattle.response.specs.Analysis.{demand, busy_up_to, max_response, response_time, deadline_at};
     ghost use Rattle.response.specs.Analysis.{slack, meets, schedulable, slack_list, first_missed};
     ghost use Rattle.response.specs.Inner.{Climbs, utilization_above, some_time, some_task};
 
@@ -46,13 +46,14 @@ impl<'a> Assignment<'a> {
         sum
     }
 
-    // The least t up to a limit that covers the demand of task i by t, none past it: the climb, from a time that no
-    // such t undercuts.
-    pub fn response_from(&self, i: usize, limit: u32, start: u32) -> Option<u32>
+    // The busy period of task i: the least t that covers its demand by t, none where t and its jitter are past a limit.
+    // The climb, from a time that no such t undercuts.
+    pub fn busy_from(&self, i: usize, limit: u32, start: u32) -> Option<u32>
         requires { Climbs limit (plan_tasks self.now.plan.now) self.now.periods.now i start }
-        ensures { result ≡ some_time (response_up_to limit (plan_tasks self.now.plan.now) self.now.periods.now i) }
+        ensures { result ≡ some_time (busy_up_to limit (plan_tasks self.now.plan.now) self.now.periods.now i) }
     {
-        if limit < start {
+        let last = limit.saturating_sub(self.plan.tasks[i].jitter);
+        if last < start {
             return None;
         }
         let mut t = start;
@@ -62,20 +63,21 @@ impl<'a> Assignment<'a> {
             if demand <= u64::from(t) {
                 break Some(t);
             }
-            if u64::from(limit) < demand {
+            if u64::from(last) < demand {
                 break None;
             }
             t = demand as u32;
         }
     }
 
-    // The response time of task i.
+    // The response time of task i: its busy period, and its jitter.
     pub fn response_time(&self, i: usize) -> Option<u32>
         requires { i < length self.now.periods.now }
         ensures { result ≡ some_time (response_time (plan_tasks self.now.plan.now) self.now.periods.now i) }
     {
-        let start = own_demand(&self.plan.tasks[i]);
-        self.response_from(i, MAX_RESPONSE, start)
+        let task = &self.plan.tasks[i];
+        let busy = self.busy_from(i, MAX_RESPONSE, own_demand(task))?;
+        Some(busy + task.jitter)
     }
 
     // The slack of task i, how much its response time leaves of its deadline. The utilization of the tasks above tells
@@ -85,9 +87,10 @@ impl<'a> Assignment<'a> {
             × (above ≡ utilization_above (plan_tasks self.now.plan.now) self.now.periods.now i) }
         ensures { result ≡ slack (plan_tasks self.now.plan.now) self.now.periods.now i }
     {
-        let start = begin_by_utilization(own_demand(&self.plan.tasks[i]), above, MAX_RESPONSE);
-        match self.response_from(i, MAX_RESPONSE, start) {
-            Some(response) => self.deadline(i) as i32 - response as i32,
+        let task = &self.plan.tasks[i];
+        let start = begin_by_utilization(own_demand(task), above, MAX_RESPONSE);
+        match self.busy_from(i, MAX_RESPONSE, start) {
+            Some(busy) => self.deadline(i) as i32 - (busy + task.jitter) as i32,
             None => NO_SLACK,
         }
     }
@@ -98,7 +101,7 @@ impl<'a> Assignment<'a> {
         ensures { result ≡ meets (plan_tasks self.now.plan.now) self.now.periods.now i }
     {
         let start = own_demand(&self.plan.tasks[i]);
-        self.response_from(i, self.deadline(i), start).is_some()
+        self.busy_from(i, self.deadline(i), start).is_some()
     }
 
     // Whether every task meets its deadline. The lowest is tried first: it is mostly the one that misses.

@@ -1,5 +1,5 @@
-ghost use Rattle.std.specs.Prelude.{◌≡◌, ◌*◌, ◌≤◌};
-ghost use Rattle.plan.specs.Tasks.{max_ticks, Valid};
+ghost use Rattle.std.specs.Prelude.{◌≡◌, ◌+◌, ◌*◌, ◌≤◌};
+ghost use Rattle.plan.specs.Tasks.{max_ticks, max_jitter, Valid};
 ghost use Rattle.response.specs.Analysis.{own_demand, interference, deadline, max_response};
 ghost use Rattle.response.specs.Inner.{Interferes};
 
@@ -24,8 +24,8 @@ pub fn own_demand(task: &Task) -> u32
 pub fn interference(task: &Task, period: u32, t: u32) -> u64
     requires { Interferes task.now period t }
     ensures is { result ≡ interference task.now period t }
-    ensures few { result ≤ max_ticks * max_response }
+    ensures few { result ≤ max_ticks * (max_response + max_jitter) }
 {
-    // `t.div_ceil(period)` makes the climb slower by a tenth.
-    u64::from(task.wcet) * u64::from((t + period - 1) / period)
+    // `div_ceil` makes the climb slower by a tenth.
+    u64::from(task.wcet) * u64::from((t + task.jitter + period - 1) / period)
 }

@@ -1,4 +1,6 @@
-use Rattle.std.proofs.Common.{sym, refl, ◌∙◌, arith}
+use Rattle.std.proofs.Common.{◌+◌, sym, refl, ◌∙◌, arith}
+use Rattle.plan.specs.Promises.{plan_tasks}
+use Rattle.plan.specs.Tasks.{task_at}
 use Rattle.response.proofs.Found.{found-none, found-some}
 use Rattle.boundary.proofs.OnePeriod.{alike-is}
 use Rattle.boundary.proofs.Missing.{seeks-probes, probing-start, probing-end, probing-responds}
@@ -9,26 +11,36 @@ use Rattle.boundary.proofs.misses.last_miss.Goals.{in-None, in-Some}
 pub loop-last-init : goal.loop-last-init
 loop-last-init c = probing-start (seeks-probes c.requires c.deadline-deadline.ensures) c.requires.begins
 
-pub response_from-requires : goal.response_from-requires
-response_from-requires c = probing-climbs c.loop-last.invariant c.probe-period.ensures
+pub busy_from-requires : goal.busy_from-requires
+busy_from-requires c = probing-climbs c.loop-last.invariant c.probe-period.ensures
 
 pub overflow_add-begin : goal.overflow_add-begin
 overflow_add-begin c =
-    let found = found-some _ (sym c.response_from.ensures ∙ c.in-Some.is) in
-    let small = probing-small c.loop-last.invariant c.probe-period.ensures found.0 in
-    rw c.deref.ensures.0 (omega (arith, small))
+    let found = found-some _ (sym c.busy_from.ensures ∙ c.in-Some.is) in
+    let small = probing-small c.loop-last.invariant c.probe-period.ensures found.0 found.1 in
+    let task = c.args.plan.now.valid c.args.i (omega (arith, c.requires.range.inside, c.requires.range.limits.sized)) in
+    rw c.deref.ensures.0 (omega (arith, small, task.wcet_most))
+
+pub overflow_add-window : goal.overflow_add-window
+overflow_add-window c =
+    let found = found-some _ (sym c.busy_from.ensures ∙ c.in-Some.is) in
+    let small = probing-small c.loop-last.invariant c.probe-period.ensures found.0 found.1 in
+    let task = c.args.plan.now.valid c.args.i (omega (arith, c.requires.range.inside, c.requires.range.limits.sized)) in
+    rw c.deref.ensures.0 (omega (arith, small, task.jitter_most))
 
 pub loop-last-preserved : goal.loop-last-preserved
 loop-last-preserved c =
     let g = c.loop-last.invariant in
     let p = c.probe-period.ensures in
-    elim c.match-response_from.branch [
-      | in-None w ↦ rw (w.last-is, w.high-is, w.response-is, w.begin-is)
-          (probing-miss g p refl (found-none _ (sym c.response_from.ensures ∙ w.in-None.is)))
+    elim c.match-busy_from.branch [
+      | in-None w ↦ rw (w.last-is, w.high-is, w.busy-is, w.begin-is)
+          (probing-miss g p refl (found-none _ (sym c.busy_from.ensures ∙ w.in-None.is)))
       | in-Some w ↦
-          let found = found-some _ (sym c.response_from.ensures ∙ w.in-Some.is) in
+          let found = found-some _ (sym c.busy_from.ensures ∙ w.in-Some.is) in
           let high = w.high-is ∙ w.div_ceil-high.ensures in
-          rw (w.last-is, w.response-is, w.begin-is, w.deref.ensures.0, high, w.div_ceil.ensures, alike-is _ _ found.1 (probing-period g p).0)
+          let window = w.in-Some.found + (task_at (plan_tasks c.args.plan.now) c.args.i).jitter in
+          let alike = alike-is window _ (omega (arith, found.1)) (probing-period g p).0 in
+          rw (w.last-is, w.busy-is, w.begin-is, high, w.div_ceil.ensures, c.deref.ensures.0, alike)
           (probing-meet g p found.0 found.1)
     ]
 

@@ -1,7 +1,12 @@
 use Rattle.std.proofs.Common.{arith}
-use Rattle.response.proofs.Limits.{climbs-own}
+use Rattle.response.proofs.Limits.{climbs-own, found-up_to}
 use Rattle.response.proofs.assignment.Assignment.response_time.Goals as goal
 
-pub response_from-requires : goal.response_from-requires
-response_from-requires c =
-    rw (c.own_demand-start.ensures, c.deref.ensures.0) (climbs-own c.args.self.now.limits c.requires (omega arith))
+pub busy_from-requires : goal.busy_from-requires
+busy_from-requires c =
+    rw (c.own_demand.ensures, c.deref.ensures.0) (climbs-own c.args.self.now.limits c.requires (omega arith))
+
+pub overflow_add-result : goal.overflow_add-result
+overflow_add-result c =
+    let t = found-up_to c.args.self.now.limits c.requires c.busy_from.ensures c.in_ok-busy.was in
+    rw c.deref.ensures.0 (omega (arith, t.early))

@@ -1,11 +1,11 @@
 use Rattle.std.proofs.Common.{suc, ◌-◌, ◌≤◌}
 use Rattle.plan.specs.Promises.{plan_tasks}
 use Rattle.response.specs.Inner.{Begins}
-use Rattle.response.proofs.assignment.Assignment.response_from.Given as goal
+use Rattle.response.proofs.assignment.Assignment.busy_from.Given as goal
 
 abbrev pub invariant-loop-demand : goal.invariant-loop-demand
 invariant-loop-demand l =
-    record { begins : Begins l.limit (plan_tasks l.self.plan.now) l.self.periods.now l.i l.t; early : l.t ≤ l.limit }
+    record { begins : Begins l.limit (plan_tasks l.self.plan.now) l.self.periods.now l.i l.t; early : l.t ≤ l.last }
 
 abbrev pub decreases-loop-demand : goal.decreases-loop-demand
-decreases-loop-demand l = suc l.limit - l.t
+decreases-loop-demand l = suc l.last - l.t

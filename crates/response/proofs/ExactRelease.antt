@@ -1,0 +1,49 @@
+-- Without jitter the time test is that of exact release.
+use mathlib.Core.Path.{◌≡◌, refl, sym, ap, ◌∙◌, fun_ext}
+use mathlib.Core.Logic.{inl, inr}
+use mathlib.Core.List.{List}
+use Prim.Native.Nat.{ℕ, zero, suc, ◌+◌}
+use native.Mathlib.Omega.{arith}
+use lib.ListN.{length, get_or-eq_default}
+use borrow.Author.Tests.{eq-eqb, ne_eqb}
+use Rattle.plan.specs.declared.tasks.Task.{Task}
+use Rattle.plan.specs.Lists.{tabulate}
+use Rattle.plan.specs.Tasks.{no_task, task_at}
+use Rattle.plan.proofs.Tests.{bool, both, le-or-lt}
+use Rattle.response.specs.Analysis.{deadline_at, slack_of, interference_above, demand, busy_up_to, response_of, response_time}
+use Rattle.response.specs.Analysis.{schedulable, slack_list, first_missed}
+use Rattle.response.specs.ExactRelease.{WithoutJitter, exact_above, exact_demand, exact_response_time, exact_slack_list, exact_schedulable}
+use Rattle.response.proofs.Missed.{schedulable-first, first-schedulable}
+
+response-same : (task : Task) → task.jitter ≡ 0 → (r : ℕ) → response_of task r ≡ r
+response-same task e zero = refl
+response-same task e (suc r) = omega (arith, e)
+
+module _ (ts : List Task) (n : WithoutJitter ts) where
+  pub no-jitter : (i : ℕ) → (task_at ts i).jitter ≡ 0
+  no-jitter i = elim (le-or-lt (length ts) i) [ inl o ↦ rw (get_or-eq_default ts no_task {n = i} o) refl | inr l ↦ n i l ]
+
+  exact-above : (xs : List ℕ) (i t : ℕ) → interference_above ts xs i t ≡ exact_above ts xs i t
+  exact-above xs zero t = refl
+  exact-above xs (suc j) t = let here : t + 0 ≡ t = omega arith in rw (exact-above xs j t, no-jitter j, here) refl
+
+  exact-demand : (xs : List ℕ) (i : ℕ) → demand ts xs i ≡ exact_demand ts xs i
+  unfolding demand
+  exact-demand xs i = fun_ext (λ t. rw (exact-above xs i t) refl)
+
+  exact-response : (xs : List ℕ) (i : ℕ) → response_time ts xs i ≡ exact_response_time ts xs i
+  unfolding busy_up_to exact_response_time
+  exact-response xs i = response-same (task_at ts i) (no-jitter i) _ ∙ rw (no-jitter i, exact-demand xs i) refl
+
+  pub exact-slacks : (xs : List ℕ) → slack_list ts xs ≡ exact_slack_list ts xs
+  unfolding slack_list exact_slack_list
+  exact-slacks xs =
+      ap (λ s. tabulate s (length ts) 0) (fun_ext (λ i. ap (slack_of (deadline_at ts xs i)) (exact-response xs i)))
+
+  pub exact-test : schedulable ts ≡ exact_schedulable ts
+  exact-test = fun_ext (λ xs.
+      let first = first_missed (exact_slack_list ts xs) in
+      elim (bool (schedulable ts xs)) [
+        | inl e ↦ e ∙ sym (eq-eqb first 0 (rw (exact-slacks xs) at (schedulable-first ts xs e)))
+        | inr e ↦ e ∙ sym (ne_eqb first 0 (λ z. both (first-schedulable ts xs (rw (← exact-slacks xs) at z)) e))
+      ])
