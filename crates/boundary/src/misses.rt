@@ -128,7 +128,7 @@ fn last_miss_below(plan: &Plan, u: &mut [u32], i: usize, low: u32, most: u32, st
 }
 
 // As `last_miss`, of task i and all tasks below it; own is its busy period, in which its own period has no part: it
-// meets its deadline from that and its jitter on. The lowest one's climbs begin at start, or where `begin_below` says by
+// meets its deadline from its response time on. The lowest one's climbs begin at start, or where `begin_below` says by
 // own, if that is later.
 pub fn last_miss_from(
     plan: &Plan,

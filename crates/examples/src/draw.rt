@@ -1,6 +1,6 @@
 ghost use Rattle.std.specs.Prelude.{◌<◌};
 
-use super::small::{Assignment, PLACES, Place, SmallPlan};
+use super::small::{Assignment, Delays, PLACES, Place, SmallPlan};
 use plan::{Plan, Task};
 use std::array;
 use std::ops::RangeInclusive;
@@ -64,20 +64,28 @@ impl Sequence {
         SmallPlan { tasks, count }
     }
 
-    // A plan of three tasks whose last one has up to two million ticks of its own to do.
+    // A plan of three tasks: the last has up to 1.3 million ticks of its own to do, and up to a million of jitter; those
+    // above mostly leave it enough of the processor to be done.
     pub(crate) fn draw_late_plan(&self) -> SmallPlan {
         let last = Task {
-            wcet: self.draw(10, 1..=32767).saturating_mul(30),
+            wcet: self.draw(10, 1..=32767).saturating_mul(20),
             period_min: Plan::MAX_TICKS,
             period_max: Plan::MAX_TICKS,
             deadline_cap: Plan::MAX_TICKS,
-            blocking: self.draw(11, 0..=32767).saturating_mul(30),
+            blocking: self.draw(11, 0..=32767).saturating_mul(20),
+            jitter: self.draw(12, 0..=32767).saturating_mul(30),
             ..self.draw_task(Place::Third, 0)
         };
         SmallPlan {
             tasks: [
-                self.draw_task(Place::First, 0),
-                self.draw_task(Place::Second, 0),
+                Task {
+                    wcet: 1,
+                    ..self.draw_task(Place::First, 3)
+                },
+                Task {
+                    wcet: 1,
+                    ..self.draw_task(Place::Second, 3)
+                },
                 last,
             ],
             count: 3,
@@ -94,5 +102,17 @@ impl Sequence {
             drawn = drawn.with(*place, period);
         }
         drawn
+    }
+
+    // How late each task is, up to its jitter, in run k of four, by numbers 0 to 11.
+    pub(crate) fn draw_delays(&self, run: usize, plan: &SmallPlan) -> Delays
+        requires { run < 4 }
+    {
+        let mut delays = Delays::default();
+        for place in plan.places() {
+            let jitter = plan.task(*place).jitter;
+            delays[place.index()] = self.draw(3 * run + place.index(), 0..=jitter);
+        }
+        delays
     }
 }

@@ -31,9 +31,11 @@ impl Counts {
             .saturating_add(u64::from(plan.assignments()));
         for k in 0..4 {
             let periods = sequence.draw_periods(k, plan);
+            let delays = sequence.draw_delays(k, plan);
             let cheapest = Run::draw(all, Planner::Cheapest, sequence, k);
             let best = Run::draw(all, Planner::Best, sequence, k);
-            self.times.compare(file, plan, &periods, clock::SOON);
+            self.times
+                .compare(file, plan, &periods, &delays, clock::SOON);
             self.cheapest.compare(&cheapest, file);
             self.best.compare(&best, file);
         }
@@ -63,7 +65,7 @@ impl fmt::Display for Counts {
 #[derive(Clone, Copy, Default)]
 struct Totals {
     free: Counts,
-    blocked: Counts,
+    delayed: Counts,
     changes: Changes,
     late: clock::Counts,
     chains: chains::Counts,
@@ -72,10 +74,10 @@ struct Totals {
 impl Totals {
     fn compare(&mut self, sequence: &Sequence) {
         let free = Enumeration::new(sequence.draw_plan(0));
-        let blocked = Enumeration::new(sequence.draw_plan(3));
+        let delayed = Enumeration::new(sequence.draw_plan(3));
         self.free.compare(sequence, Version::One, &free);
-        self.blocked.compare(sequence, Version::Two, &blocked);
-        self.changes.compare(&free, &blocked);
+        self.delayed.compare(sequence, Version::Two, &delayed);
+        self.changes.compare(&free, &delayed);
         self.chains.compare(sequence);
     }
 
@@ -83,8 +85,10 @@ impl Totals {
         let plan = sequence.draw_late_plan();
         let plan_file = TestFile::from_plan(Version::Two, &plan);
         let periods = sequence.draw_periods(0, &plan);
+        let delays = sequence.draw_delays(0, &plan);
+        let file = plan_file.bytes();
         self.late
-            .compare(plan_file.bytes(), &plan, &periods, clock::LONGEST);
+            .compare(file, &plan, &periods, &delays, clock::LONGEST);
     }
 }
 
@@ -100,13 +104,13 @@ pub(crate) fn run(rt: &impl Print) -> io::Result<()> {
     }
     let Totals {
         free,
-        blocked,
+        delayed,
         changes,
         late,
         chains,
     } = totals;
     println!(rt;
-        "{free}the same plans with blocking and jitter, in version 2\n{blocked}optimum with blocking: {changes}\n\
+        "{free}the same plans with blocking and jitter, in version 2\n{delayed}optimum with these: {changes}\n\
          slacks by the clock, every tick up to 2,000,000: {late}\n\
          predecessors by enumeration of chains: {chains}"
     )

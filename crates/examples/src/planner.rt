@@ -8,9 +8,9 @@ use optimizer::{CallError, Conclusion, Stop};
 use plan::Task;
 use std::fmt;
 
-// Whether a task's own demand exceeds its longest period or its cap.
+// Whether a task's own demand and its jitter exceed its longest period or its cap.
 fn is_infeasible_alone(task: &Task) -> bool {
-    task.period_max.min(task.deadline_cap) < own_demand(task)
+    task.period_max.min(task.deadline_cap) < own_demand(task).wrapping_add(task.jitter)
 }
 
 // The first such task, from 1 on.
@@ -196,7 +196,8 @@ impl fmt::Display for Counts {
     }
 }
 
-// What blocking made of the cheapest assignments: none either way, the same, another, none by rule 31, none by 32.
+// What blocking and jitter made of the cheapest assignments: none either way, the same, another, none by rule 31, none
+// by 32.
 #[derive(Clone, Copy, Default)]
 pub(crate) struct Changes {
     neither: u64,
@@ -207,12 +208,12 @@ pub(crate) struct Changes {
 }
 
 impl Changes {
-    pub(crate) fn compare(&mut self, free: &Enumeration, blocked: &Enumeration) {
-        let counter = match (free.cheapest(), blocked.cheapest()) {
+    pub(crate) fn compare(&mut self, free: &Enumeration, delayed: &Enumeration) {
+        let counter = match (free.cheapest(), delayed.cheapest()) {
             (None, _) => &mut self.neither,
-            (Some(free), Some(blocked)) if free == blocked => &mut self.same,
+            (Some(free), Some(delayed)) if free == delayed => &mut self.same,
             (Some(_), Some(_)) => &mut self.moved,
-            (Some(_), None) if first_alone(&blocked.plan).is_some() => &mut self.alone,
+            (Some(_), None) if first_alone(&delayed.plan).is_some() => &mut self.alone,
             (Some(_), None) => &mut self.unschedulable,
         };
         *counter = counter.saturating_add(1);

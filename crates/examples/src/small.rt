@@ -51,6 +51,9 @@ impl Assignment {
     }
 }
 
+// How much later than at its moment each of three tasks is released.
+pub(crate) type Delays = [u32; 3];
+
 // One, two or three tasks: an array with a count, so that sums and products go over three places. A task that is not
 // there is one of zeros, whose one period is 0 and costs nothing.
 #[derive(Clone, Copy)]
@@ -75,6 +78,12 @@ impl SmallPlan {
 
     pub(crate) fn task(&self, place: Place) -> &Task {
         &self.tasks[place.index()]
+    }
+
+    // Its tasks' jitter: the longest delays.
+    pub(crate) fn jitter(&self) -> Delays {
+        let [a, b, c] = &self.tasks;
+        [a.jitter, b.jitter, c.jitter]
     }
 
     // The periods of its tasks.

@@ -22,8 +22,8 @@ work_fault ts work = fault_if (ltb work (length ts)) 24 0
 unfoldable pub call_fault : Fault → List Task → ℕ → ℕ → Fault
 call_fault f ts space work = first_fault (f ∷ space_fault ts space ∷ work_fault ts work ∷ [])
 
--- "31 'lone': C above the smaller of hi and cap. Place: first such job."; "Hold is added .. in the lone rule"; "The lone
--- rule adds late to work and hold.": its own demand and its jitter above its deadline at its longest period
+-- "31 'lone': C above the smaller of hi and cap. Place: first such job."; "Hold is added .. in the lone rule"; "The
+-- lone rule adds late to work and hold.": its own demand and its jitter above its deadline at its longest period
 abbrev pub infeasible_alone : Task → Bool
 infeasible_alone t = ltb (deadline t t.period_max) (own_demand t + t.jitter)
 

@@ -1,5 +1,4 @@
--- Exact release: the time test as it is where no task has jitter and each is released at its moment. "plans without late
--- keep their answers"
+-- Exact release: the time test of tasks that are released at their moments, without jitter.
 use Rattle.std.specs.Prelude.{◌≡◌, Bool, List, ℕ, zero, suc, ◌+◌, ◌*◌, ◌<◌, eqb, length, get_or, ℤ}
 use Rattle.plan.specs.declared.tasks.Task.{Task}
 use Rattle.plan.specs.Lists.{tabulate}
@@ -19,7 +18,8 @@ exact_demand ts xs i t = own_demand (task_at ts i) + exact_above ts xs i t
 
 -- "The response is now the least t up to 2,000,000"
 unfoldable pub exact_response_time : List Task → List ℕ → ℕ → ℕ
-exact_response_time ts xs i = climb_from (suc max_response) max_response (exact_demand ts xs i) (own_demand (task_at ts i))
+exact_response_time ts xs i =
+    climb_from (suc max_response) max_response (exact_demand ts xs i) (own_demand (task_at ts i))
 
 abbrev pub exact_slack : List Task → List ℕ → ℕ → ℤ
 exact_slack ts xs i = slack_of (deadline_at ts xs i) (exact_response_time ts xs i)
