@@ -1,4 +1,4 @@
-use Rattle.std.proofs.Common.{◌+◌, sym, refl, ◌∙◌, arith}
+use Rattle.std.proofs.Common.{◌+◌, ◌≤◌, sym, refl, ◌∙◌, arith}
 use Rattle.plan.specs.Promises.{plan_tasks}
 use Rattle.plan.specs.Tasks.{task_at}
 use Rattle.response.proofs.Found.{found-none, found-some}
@@ -37,11 +37,11 @@ loop-last-preserved c =
           (probing-miss g p refl (found-none _ (sym c.busy_from.ensures ∙ w.in-None.is)))
       | in-Some w ↦
           let found = found-some _ (sym c.busy_from.ensures ∙ w.in-Some.is) in
-          let high = w.high-is ∙ w.div_ceil-high.ensures in
           let window = w.in-Some.found + (task_at (plan_tasks c.args.plan.now) c.args.i).jitter in
-          let alike = alike-is window _ (omega (arith, found.1)) (probing-period g p).0 in
-          rw (w.last-is, w.busy-is, w.begin-is, high, w.div_ceil.ensures, c.deref.ensures.0, alike)
-          (probing-meet g p found.0 found.1)
+          let some : 1 ≤ window = omega (arith, found.1) in
+          let found-high = rw (w.div_ceil.ensures, c.deref.ensures.0) at w.div_ceil-high.ensures in
+          let high = w.high-is ∙ found-high ∙ alike-is window _ some (probing-period g p).0 in
+          rw (w.last-is, w.busy-is, w.begin-is, c.deref.ensures.0, high) (probing-meet g p found.0 found.1)
     ]
 
 pub returns-clause-is : goal.returns-clause-is
