@@ -13,10 +13,10 @@ use borrow.Author.Tests.{lt-leb, le-leb, leb-true}
 use Rattle.plan.specs.declared.tasks.Task.{Task}
 use Rattle.plan.specs.Tasks.{max_ticks, task_at, Valid}
 use Rattle.plan.proofs.Tests.{le-or-lt, eq-or-ne, and_left, and_right}
-use Rattle.response.specs.Analysis.{own_demand, deadline_at, busy_up_to, meets, max_response}
+use Rattle.response.specs.Analysis.{own_demand, deadline_at, busy_period, meets, max_response}
 use Rattle.response.specs.Claims.{Covers}
-use Rattle.response.specs.Inner.{Limits, Climbs, busy_in_time}
-use Rattle.response.proofs.Limits.{limits-set}
+use Rattle.response.specs.Inner.{Limits, Climbs, busy_in_time, last_end_at}
+use Rattle.response.proofs.Limits.{limits-set, climbs-within}
 use Rattle.response.proofs.Exactness.{own-some, own-begins, busy-early}
 use Rattle.response.proofs.Slack.{misses-none}
 use Rattle.response.proofs.Sustainable.{covers-above, covers-meets, schedulable-none}
@@ -82,18 +82,17 @@ last-join {ts} {u} {i} {j} {k} {n} {low} {most} {v} {x} l m = record {
   ];
 }
 
--- probing for the last period of task i at which task k misses its deadline; its climbs' limit is that deadline, in which period i
--- has no part
-pub record Probes (ts : List Task) (u : List ℕ) (i k low most limit : ℕ) : Type 0 where
+-- probing for the last period of task i at which task k misses its deadline; its climbs end by that, in which period i has no part
+pub record Probes (ts : List Task) (u : List ℕ) (i k low most end : ℕ) : Type 0 where
   pub range : Range ts u i low most
   pub below : i < k
   pub inside : k < length u
-  pub limited : limit ≡ deadline_at ts u k
+  pub ends : end ≡ last_end_at ts u k
 
 -- the last found, one from which on a busy period of task k covers, where its climbs right past the last may begin,
 -- and where those between the two may
-pub record Probing (ts : List Task) (u : List ℕ) (i k low most limit : ℕ) (u' : List ℕ) (last high busy begin turn : ℕ) : Type 0 where
-  pub given : Probes ts u i k low most limit
+pub record Probing (ts : List Task) (u : List ℕ) (i k low most end : ℕ) (u' : List ℕ) (last high busy begin turn : ℕ) : Type 0 where
+  pub given : Probes ts u i k low most end
   pub moved : Moved ts i u u'
   pub above : low ≤ last
   pub upto : last ≤ most
@@ -105,10 +104,10 @@ pub record Probing (ts : List Task) (u : List ℕ) (i k low most limit : ℕ) (u
   pub between : (y : ℕ) → last < y → y < high → BeginsAt ts u i y k begin
 
 module _ {ts : List Task} {u : List ℕ} {i k low most : ℕ} where
-  pub seeks-probes : {start limit : ℕ} → Seeks ts u i k low most start → limit ≡ deadline_at ts u k → Probes ts u i k low most limit
-  seeks-probes q e = record { range = q.range; below = q.below; inside = q.inside; limited = e }
+  pub seeks-probes : {start end : ℕ} → Seeks ts u i k low most start → end ≡ last_end_at ts u k → Probes ts u i k low most end
+  seeks-probes q e = record { range = q.range; below = q.below; inside = q.inside; ends = e }
 
-  module _ {limit : ℕ} (q : Probes ts u i k low most limit) where
+  module _ {end : ℕ} (q : Probes ts u i k low most end) where
     k-inside : k < length ts
     k-inside = omega (arith, q.inside, q.range.limits.sized)
 
@@ -125,7 +124,7 @@ module _ {ts : List Task} {u : List ℕ} {i k low most : ℕ} where
     shorter : {p t : ℕ} → BeginsAt ts u i p k t → (y : ℕ) → 1 ≤ y → y ≤ most → y ≤ p → BeginsAt ts u i y k t
     shorter b y c d h = shorter-begins ts u i k (some-set y c d) h b
 
-    pub probing-start : {start : ℕ} → BeginsAt ts u i most k start → Probing ts u i k low most limit u low (most + 1) start start 0
+    pub probing-start : {start : ℕ} → BeginsAt ts u i most k start → Probing ts u i k low most end u low (most + 1) start start 0
     probing-start b = record {
       given = q;
       moved = moved_none q.range.limits;
@@ -139,9 +138,9 @@ module _ {ts : List Task} {u : List ℕ} {i k low most : ℕ} where
       between = λ y c d. shorter b y (omega arith) (omega arith) (omega arith);
     }
 
-  module _ {limit : ℕ} {u' : List ℕ} {last high busy begin turn : ℕ}
-      (g : Probing ts u i k low most limit u' last high busy begin turn) where
-    abbrev q : Probes ts u i k low most limit
+  module _ {end : ℕ} {u' : List ℕ} {last high busy begin turn : ℕ}
+      (g : Probing ts u i k low most end u' last high busy begin turn) where
+    abbrev q : Probes ts u i k low most end
     q = g.given
 
     pub probing-end : high ≤ last + 1 → LastMiss ts u i k (suc k) low most last
@@ -172,26 +171,25 @@ module _ {ts : List Task} {u : List ℕ} {i k low most : ℕ} where
       probing-moved : Moved ts i u (set u' i p)
       probing-moved = moved-set g.moved p probing-period.0 probing-period.1
 
-      fixed : limit ≡ deadline_at ts (set u i p) k
-      fixed = q.limited ∙ sym (deadline-other ts u i k p (λ e. omega (arith, q.below)))
+      fixed : end ≡ last_end_at ts (set u i p) k
+      fixed = rw (deadline-other ts u i k p (λ e. omega (arith, q.below))) q.ends
 
-      pub probing-climbs : Climbs limit ts (set u' i p) k begin
-      probing-climbs = record {
-        inside = k-inside q;
-        ends = omega (arith, q.limited, q.range.limits.most k);
-        begins = rw (g.moved.only p, fixed) (g.between p a.0 a.1);
-      }
+      pub probing-climbs : Climbs end ts (set u' i p) k begin
+      probing-climbs =
+          let most = (limits-set q.range.limits i p probing-period.0 probing-period.1).most k in
+          rw (g.moved.only p, fixed) (climbs-within (k-inside q) (omega (arith, most)) (g.between p a.0 a.1))
 
-      module _ {r : ℕ} (is : r ≡ busy_up_to limit ts (set u' i p) k) where
+      module _ {r : ℕ} (is : r ≡ busy_period end ts (set u' i p) k) where
         busy-is : r ≡ busy_in_time ts (set u i p) k
         busy-is = rw (g.moved.only p, fixed) at is
 
         pub probing-small : 1 ≤ r → r ≤ max_ticks
         probing-small s =
-            let early = busy-early limit ts (set u' i p) k (works q) (omega (arith, is)) in
-            omega (arith, is, early, q.limited, q.range.limits.most k)
+            let early = busy-early (deadline_at ts (set u i p) k) ts (set u i p) k (works q) (omega (arith, busy-is)) in
+            let most = (limits-set q.range.limits i p probing-period.0 probing-period.1).most k in
+            omega (arith, busy-is, early, most)
 
-        pub probing-miss : r ≡ 0 → Probing ts u i k low most limit (set u' i p) p high busy begin (turn + 1)
+        pub probing-miss : r ≡ 0 → Probing ts u i k low most end (set u' i p) p high busy begin (turn + 1)
         probing-miss e = record {
           given = q;
           moved = probing-moved;
@@ -206,7 +204,7 @@ module _ {ts : List Task} {u : List ℕ} {i k low most : ℕ} where
         }
 
         pub probing-meet : 1 ≤ r
-            → Probing ts u i k low most limit (set u' i p) last (alike (r + (task_at ts i).jitter) p) r (r + (task_at ts i).wcet) (turn + 1)
+            → Probing ts u i k low most end (set u' i p) last (alike (r + (task_at ts i).jitter) p) r (r + (task_at ts i).wcet) (turn + 1)
         probing-meet s =
             let window = r + (task_at ts i).jitter in
             let some : 1 ≤ window = omega arith in

@@ -2,8 +2,8 @@
 use Rattle.std.specs.Prelude.{◌≡◌, Bool, true, false, ◌&&◌, List, ℕ, suc, ◌-◌, ◌≤◌, ◌<◌, leb, length, get_or, set}
 use Rattle.plan.specs.declared.tasks.Task.{Task}
 use Rattle.plan.specs.Tasks.{max_ticks, task_at}
-use Rattle.response.specs.Analysis.{own_demand, deadline, deadline_at, meets, schedulable}
-use Rattle.response.specs.Inner.{Limits, Begins, busy_in_time}
+use Rattle.response.specs.Analysis.{own_demand, deadline_at, meets, schedulable}
+use Rattle.response.specs.Inner.{Limits, Begins, busy_in_time, last_end}
 
 -- where the period of task i may go
 pub record Range (ts : List Task) (u : List ℕ) (i low most : ℕ) : Type 0 where
@@ -32,7 +32,7 @@ BeginsAt ts u i v k t = Begins (deadline_at ts (set u i v) k) ts (set u i v) k t
 -- whether a time that covers the demand of a lower task, with its own demand, covers that of a task in time, too: the
 -- task's blocking is in its own demand only
 abbrev pub settles : Task → ℕ → ℕ → ℕ → Bool
-settles task period own r = leb r (deadline task period - task.jitter) && leb task.blocking own
+settles task period own r = leb r (last_end task period) && leb task.blocking own
 
 -- r is a time of task k: no climb right past v need begin before it; and a task above it, below task i, that it settles
 -- meets its deadline everywhere past v

@@ -31,7 +31,7 @@ fn lower_all(plan: &Plan, x: &mut [u32], node: &Node, limit: u64) -> u64
         let begin = begin_at(plan, i, own);
         let assignment = Assignment { plan, periods: x };
         own = assignment
-            .busy_from(i, assignment.deadline(i), begin)
+            .busy_from(i, assignment.last_end(i), begin)
             .unwrap();
         let miss = last_miss_from(plan, x, i, own, least - 1, most, start);
         let period = miss.last + 1;

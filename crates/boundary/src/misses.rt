@@ -7,7 +7,7 @@ ghost use Rattle.boundary.specs.Misses.{Seeks, SeeksBetween, SeeksBelow, SeeksFr
 
 use super::begins::begin_below;
 use plan::{Plan, Task};
-use response::{Assignment, deadline, own_demand};
+use response::{Assignment, last_end, own_demand};
 
 // The last period at which a deadline is missed, and a time at which the climbs right past it may begin: a busy period
 // there, or the time at which they began before.
@@ -53,7 +53,7 @@ fn last_miss(
     ensures moved { Moved (plan_tasks plan.now) i u.old u.new }
 {
     let task = &plan.tasks[i];
-    let deadline = (Assignment { plan, periods: u }).deadline(k);
+    let end = (Assignment { plan, periods: u }).last_end(k);
     let mut last = low;
     let mut high = most + 1;
     let mut busy = start;
@@ -64,7 +64,7 @@ fn last_miss(
         let period = probe(last, high, turn);
         u[i] = period;
         let assignment = Assignment { plan, periods: u };
-        match assignment.busy_from(k, deadline, begin) {
+        match assignment.busy_from(k, end, begin) {
             None => last = period,
             Some(found) => {
                 busy = found;
@@ -82,7 +82,7 @@ fn last_miss(
 fn settles(task: &Task, period: u32, own: u32, busy: u32) -> bool
     ensures { result ≡ settles task.now period own busy }
 {
-    busy <= deadline(task, period).saturating_sub(task.jitter) && task.blocking <= own
+    busy <= last_end(task, period) && task.blocking <= own
 }
 
 // As `last_miss`, of the tasks between task i and task k, whose last miss and busy period are known: these settle

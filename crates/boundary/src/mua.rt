@@ -21,7 +21,7 @@ fn raise(plan: &Plan, u: &mut [u32], i: usize, most: u32, begin: u32) -> Option<
     let least = u[i];
     u[i] = most;
     let assignment = Assignment { plan, periods: u };
-    let own = assignment.busy_from(i, assignment.deadline(i), begin)?;
+    let own = assignment.busy_from(i, assignment.last_end(i), begin)?;
     let miss = last_miss_from(plan, u, i, own, least, most, lowest_start(plan));
     u[i] = miss.last;
     (own + plan.tasks[i].jitter <= miss.last).then_some(own)

@@ -6,7 +6,7 @@ use Rattle.plan.specs.Canonical.{header_bytes, canonical}
 use Rattle.plan.specs.Faults.{first_from}
 use Rattle.plan.specs.Files.{file_fault, tasks_of}
 use Rattle.plan.proofs.Samples.{plan_p}
-use Rattle.response.specs.Analysis.{demand, climb_from, busy_up_to}
+use Rattle.response.specs.Analysis.{demand, climb_from, busy_period}
 use Rattle.optimizer.specs.Promises.{call_fault, outcome_of}
 use Rattle.optimizer.proofs.Examples.{published as searched}
 use Rattle.listing.specs.Text.{decimal, listing_for, listing_of}
@@ -26,7 +26,7 @@ pub record Published : Type 0 where
       ∷ 114 ∷ 111 ∷ 117 ∷ 110 ∷ 100 ∷ 115 ∷ 32 ∷ 51 ∷ 10 ∷ []
 
 pub published : Published
-unfolding value_of bytes_of words_of header_bytes canonical first_from file_fault tasks_of demand climb_from busy_up_to call_fault outcome_of decimal listing_for
+unfolding value_of bytes_of words_of header_bytes canonical first_from file_fault tasks_of demand climb_from busy_period call_fault outcome_of decimal listing_for
 published = record {
   answer = ap (listing_for plan_p) searched.answer;
   refusal = refl;

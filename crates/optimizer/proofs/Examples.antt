@@ -15,7 +15,7 @@ use Rattle.plan.specs.Tasks.{period_maxs, weights}
 use Rattle.plan.specs.Files.{file_fault, tasks_of}
 use Rattle.plan.proofs.Accepted.{accepted-valid}
 use Rattle.plan.proofs.Samples.{variant_p, plan_p}
-use Rattle.response.specs.Analysis.{demand, climb_from, busy_up_to, schedulable, slack_list, first_missed}
+use Rattle.response.specs.Analysis.{demand, climb_from, busy_period, schedulable, slack_list, first_missed}
 use Rattle.response.specs.Assignments.{cost, less}
 use Rattle.response.specs.Inner.{busy_in_time}
 use Rattle.response.proofs.Slack.{meets-responds, misses-none}
@@ -124,7 +124,7 @@ module _ (s : List ℕ) where
   best-is budget space work = by-early (best_by budget space work)
 
 pub incumbents : Kept
-unfolding value_of bytes_of words_of header_bytes canonical first_from file_fault tasks_of demand climb_from busy_up_to least_of search_from
+unfolding value_of bytes_of words_of header_bytes canonical first_from file_fault tasks_of demand climb_from busy_period least_of search_from
     mua children lowering call_fault
 incumbents = record {
   budget0 = best-is plan_p 0 2 16000 refl;
@@ -144,13 +144,13 @@ record Late : Type 0 where
   radio : busy_in_time (tasks late) (1 ∷ 8 ∷ []) 1 ≡ 0
 
 computed : Late
-unfolding value_of bytes_of words_of header_bytes canonical first_from file_fault tasks_of demand climb_from busy_up_to
+unfolding value_of bytes_of words_of header_bytes canonical first_from file_fault tasks_of demand climb_from busy_period
 computed = record { two = refl; longest = refl; gauge = refl; radio = refl }
 
 -- its slack is not computed
 by-place : outcome_by late 100000 2 16000 (in_time (tasks late))
     ≡ refused (fault 32 (first_missed (slack_list (tasks late) (period_maxs (tasks late)))))
-unfolding value_of bytes_of words_of header_bytes canonical first_from file_fault tasks_of demand climb_from busy_up_to call_fault
+unfolding value_of bytes_of words_of header_bytes canonical first_from file_fault tasks_of demand climb_from busy_period call_fault
 by-place = refl
 
 first-late : first_missed (slack_list (tasks late) (period_maxs (tasks late))) ≡ 2
@@ -166,7 +166,7 @@ first-late =
     }))
 
 pub published : Published
-unfolding value_of bytes_of words_of header_bytes canonical first_from file_fault tasks_of demand climb_from busy_up_to least_of search_from
+unfolding value_of bytes_of words_of header_bytes canonical first_from file_fault tasks_of demand climb_from busy_period least_of search_from
     mua children call_fault
 published = record {
   answer = outcome-is plan_p 100000 2 16000 refl;

@@ -10,7 +10,7 @@ use Rattle.plan.specs.declared.tasks.Task.{Task}
 use Rattle.plan.specs.Lists.{tabulate}
 use Rattle.plan.specs.Tasks.{no_task, task_at}
 use Rattle.plan.proofs.Tests.{bool, both, le-or-lt}
-use Rattle.response.specs.Analysis.{deadline_at, slack_of, interference_above, demand, busy_up_to, response_of, response_time}
+use Rattle.response.specs.Analysis.{deadline_at, slack_of, interference_above, demand, busy_period, response_of, response_time}
 use Rattle.response.specs.Analysis.{schedulable, slack_list, first_missed}
 use Rattle.response.specs.ExactRelease.{WithoutJitter, exact_above, exact_demand, exact_response_time, exact_slack_list, exact_schedulable}
 use Rattle.response.proofs.Missed.{schedulable-first, first-schedulable}
@@ -32,7 +32,7 @@ module _ (ts : List Task) (n : WithoutJitter ts) where
   exact-demand xs i = fun_ext (λ t. rw (exact-above xs i t) refl)
 
   exact-response : (xs : List ℕ) (i : ℕ) → response_time ts xs i ≡ exact_response_time ts xs i
-  unfolding busy_up_to exact_response_time
+  unfolding busy_period exact_response_time
   exact-response xs i = response-same (task_at ts i) (no-jitter i) _ ∙ rw (no-jitter i, exact-demand xs i) refl
 
   pub exact-slacks : (xs : List ℕ) → slack_list ts xs ≡ exact_slack_list ts xs

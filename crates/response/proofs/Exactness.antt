@@ -10,7 +10,7 @@ use Rattle.std.specs.Prelude.{Some, None}
 use Rattle.plan.specs.declared.tasks.Task.{Task}
 use Rattle.plan.specs.Tasks.{max_ticks, max_blocking, task_at, AllValid}
 use Rattle.plan.proofs.Tests.{le-or-lt}
-use Rattle.response.specs.Analysis.{own_demand, demand, climb_from, busy_up_to}
+use Rattle.response.specs.Analysis.{own_demand, demand, climb_from, busy_period, busy_up_to}
 use Rattle.response.specs.Claims.{Covers}
 use Rattle.response.specs.Inner.{Begins, some_time}
 use Rattle.response.proofs.Demand.{demand-monotone, demand_own}
@@ -75,14 +75,14 @@ module _ (limit : ℕ) (ts : List Task) (xs : List ℕ) (i : ℕ) where
   own = own_demand (task_at ts i)
 
   pub busy-exact : 1 ≤ own_demand (task_at ts i) → IsBusy limit ts xs i (busy_up_to limit ts xs i)
-  unfolding busy_up_to
+  unfolding busy_period
   busy-exact w =
       let last = limit - jitter in
       let needs = demand ts xs i in
       record {
-        covers = λ s. let c = climb-covers last needs (suc limit) own s in record { some = s; early = omega (arith, c.0); covers = c.1 };
+        covers = λ s. let c = climb-covers last needs (suc last) own s in record { some = s; early = omega (arith, c.0); covers = c.1 };
         least = λ t c.
-            climb-least last needs (demand-monotone ts xs i) (suc limit) own t w
+            climb-least last needs (demand-monotone ts xs i) (suc last) own t w
             (omega (arith, c.covers, demand_own ts xs i t)) (omega (arith, c.early)) c.covers (omega arith);
       }
 
@@ -93,33 +93,46 @@ module _ (limit : ℕ) (ts : List Task) (xs : List ℕ) (i : ℕ) where
 
   pub busy-past : 1 ≤ own_demand (task_at ts i) → limit < own_demand (task_at ts i) + (task_at ts i).jitter
       → busy_up_to limit ts xs i ≡ 0
-  unfolding busy_up_to
-  busy-past w h = climb-past (limit - jitter) (demand ts xs i) (suc limit) own (omega arith)
+  unfolding busy_period
+  busy-past w h = climb-past (limit - jitter) (demand ts xs i) (suc (limit - jitter)) own (omega arith)
 
   pub own-begins : 1 ≤ own_demand (task_at ts i) → Begins limit ts xs i (own_demand (task_at ts i))
   own-begins h = record { some = h; below = λ s c. omega (arith, c.covers, demand_own ts xs i s) }
+
+-- of a last t
+period-exact : (last : ℕ) (ts : List Task) (xs : List ℕ) (i : ℕ) → 1 ≤ own_demand (task_at ts i)
+    → IsBusy (last + (task_at ts i).jitter) ts xs i (busy_period last ts xs i)
+period-exact last ts xs i w =
+    let late = (task_at ts i).jitter in
+    let same : last + late - late ≡ last = omega arith in
+    rw same at (busy-exact (last + late) ts xs i w)
 
 -- a time that is not 0
 pub some-time : (t : ℕ) → 1 ≤ t → Some t ≡ some_time t
 some-time zero h = absurd (let z : ⊥ = omega arith in z)
 some-time (suc t) h = refl
 
--- one turn of a climb that stands at t: it is past the limit, or stops, or goes on from the demand m by t
-module _ {limit : ℕ} {ts : List Task} {xs : List ℕ} {i : ℕ} (w : 1 ≤ own_demand (task_at ts i)) where
-  pub past : {t : ℕ} → Begins limit ts xs i t → limit < t + (task_at ts i).jitter → None ≡ some_time (busy_up_to limit ts xs i)
-  past b h = elim (le-or-lt 1 (busy_up_to limit ts xs i)) [
-    | inl l ↦ let c = (busy-exact limit ts xs i w).covers l in
-        absurd (omega (arith, c.early, b.below (busy_up_to limit ts xs i) c))
-    | inr l ↦ let e : 0 ≡ busy_up_to limit ts xs i = omega arith in ap some_time e
-  ]
+-- one turn of a climb that stands at t: it goes on from the demand m by t,
+pub goes_on : {limit : ℕ} {ts : List Task} {xs : List ℕ} {i t m : ℕ} → Begins limit ts xs i t → m ≡ demand ts xs i t → t < m
+    → Begins limit ts xs i m
+goes_on {ts = ts} {xs} {i} {t} b e h =
+    record { some = omega arith; below = λ s c. omega (arith, c.covers, demand-monotone ts xs i t s (b.below s c)) }
 
-  module _ {t m : ℕ} (b : Begins limit ts xs i t) (e : m ≡ demand ts xs i t) where
-    pub stops : t + (task_at ts i).jitter ≤ limit → m ≤ t → Some t ≡ some_time (busy_up_to limit ts xs i)
-    stops d h =
-        let x = busy-exact limit ts xs i w in
-        let l = x.least t (record { some = b.some; early = d; covers = omega arith }) in
-        let e : t ≡ busy_up_to limit ts xs i = omega (arith, l.1, b.below (busy_up_to limit ts xs i) (x.covers l.0)) in
-        some-time t b.some ∙ ap some_time e
+-- or is past its last t, or stops
+module _ {last : ℕ} {ts : List Task} {xs : List ℕ} {i : ℕ} (w : 1 ≤ own_demand (task_at ts i)) {t : ℕ}
+    (b : Begins (last + (task_at ts i).jitter) ts xs i t) where
+  pub past : last < t → None ≡ some_time (busy_period last ts xs i)
+  past h =
+      let r = busy_period last ts xs i in
+      elim (le-or-lt 1 r) [
+        | inl l ↦ let c = (period-exact last ts xs i w).covers l in absurd (omega (arith, c.early, b.below r c))
+        | inr l ↦ let e : 0 ≡ r = omega arith in ap some_time e
+      ]
 
-    pub goes_on : t < m → Begins limit ts xs i m
-    goes_on h = record { some = omega arith; below = λ s c. omega (arith, c.covers, demand-monotone ts xs i t s (b.below s c)) }
+  pub stops : {m : ℕ} → m ≡ demand ts xs i t → t ≤ last → m ≤ t → Some t ≡ some_time (busy_period last ts xs i)
+  stops e d h =
+      let r = busy_period last ts xs i in
+      let x = period-exact last ts xs i w in
+      let l = x.least t (record { some = b.some; early = omega arith; covers = omega arith }) in
+      let same : t ≡ r = omega (arith, l.1, b.below r (x.covers l.0)) in
+      some-time t b.some ∙ ap some_time same

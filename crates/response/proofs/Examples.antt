@@ -13,7 +13,7 @@ use Rattle.plan.specs.Faults.{first_from}
 use Rattle.plan.specs.Files.{file_fault, tasks_of}
 use Rattle.plan.proofs.Accepted.{accepted-valid}
 use Rattle.plan.proofs.Samples.{plan_p, plan_s}
-use Rattle.response.specs.Analysis.{own_demand, demand, climb_from, busy_up_to, no_slack, slack, slack_list}
+use Rattle.response.specs.Analysis.{own_demand, demand, climb_from, busy_period, no_slack, slack, slack_list}
 use Rattle.response.specs.Inner.{whole, utilization_above}
 use Rattle.response.proofs.Slack.{slack-exact}
 use Rattle.response.proofs.Idle.{full-covers}
@@ -43,7 +43,7 @@ record Full : Type 0 where
   gauge : slack p full 0 ≡ pos 0
 
 computed : Full
-unfolding value_of bytes_of words_of header_bytes canonical first_from file_fault tasks_of busy_up_to climb_from demand
+unfolding value_of bytes_of words_of header_bytes canonical first_from file_fault tasks_of busy_period climb_from demand
 computed = record { two = refl; own = refl; above = refl; gauge = refl }
 
 radio : slack p full 1 ≡ no_slack
@@ -58,5 +58,5 @@ unfolding slack_list
 slacks-full = rw (computed.two, computed.gauge, radio)
 
 pub published : Published
-unfolding value_of bytes_of words_of header_bytes canonical first_from file_fault tasks_of slack_list busy_up_to climb_from demand
+unfolding value_of bytes_of words_of header_bytes canonical first_from file_fault tasks_of slack_list busy_period climb_from demand
 published = record { p24 = refl; p23 = refl; p33 = refl; p18 = slacks-full; s840 = refl }

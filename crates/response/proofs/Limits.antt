@@ -2,7 +2,7 @@
 use mathlib.Core.Path.{◌≡◌, sym, ◌∙◌}
 use mathlib.Core.Logic.{inl, inr}
 use mathlib.Core.List.{List}
-use Prim.Native.Nat.{ℕ, ◌+◌, ◌≤◌, ◌<◌}
+use Prim.Native.Nat.{ℕ, ◌+◌, ◌-◌, ◌≤◌, ◌<◌}
 use native.Mathlib.Omega.{arith}
 use lib.ListN.{length, set, length-set}
 use lib.Seq.{get_or-set_same, get_or-set_other, set_out}
@@ -11,7 +11,7 @@ use Rattle.plan.specs.Tasks.{max_ticks, task_at}
 use Rattle.plan.proofs.Tests.{le-or-lt, eq-or-ne}
 use Rattle.std.specs.Prelude.{Option, Some}
 use Rattle.response.specs.Analysis.{own_demand, busy_up_to, max_response}
-use Rattle.response.specs.Inner.{Limits, Climbs, some_time}
+use Rattle.response.specs.Inner.{Limits, Begins, Climbs, some_time}
 use Rattle.response.proofs.Exactness.{own-some, own-begins, busy-early}
 use Rattle.response.proofs.Found.{found-some}
 
@@ -32,12 +32,24 @@ limits-set {ts} {xs} l i v p q =
       }
     ]
 
+-- a climb within a limit
+pub climbs-within : {ts : List Task} {xs : List ℕ} {i limit start : ℕ} → i < length ts → limit ≤ max_response
+    → Begins limit ts xs i start → Climbs (limit - (task_at ts i).jitter) ts xs i start
+climbs-within h e b = record {
+  inside = h;
+  ends = omega arith;
+  begins = record {
+    some = b.some;
+    below = λ t c. b.below t (record { some = c.some; early = omega (arith, c.some, c.early); covers = c.covers });
+  };
+}
+
 -- a climb may begin at the task's own demand
 pub climbs-own : {ts : List Task} {xs : List ℕ} → Limits ts xs → {i : ℕ} → i < length xs → {limit : ℕ} → limit ≤ max_response
-    → Climbs limit ts xs i (own_demand (task_at ts i))
+    → Climbs (limit - (task_at ts i).jitter) ts xs i (own_demand (task_at ts i))
 climbs-own {ts} {xs} l {i} h {limit} e =
     let inside : i < length ts = omega (arith, l.sized) in
-    record { inside = inside; ends = e; begins = own-begins limit ts xs i (own-some ts l.valid i inside) }
+    climbs-within inside e (own-begins limit ts xs i (own-some ts l.valid i inside))
 
 -- a busy period that was found up to a limit
 pub record FoundUpTo (limit : ℕ) (ts : List Task) (xs : List ℕ) (i t : ℕ) : Type 0 where

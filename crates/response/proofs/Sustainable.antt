@@ -11,7 +11,7 @@ use borrow.Author.Tests.{leb-true, le-leb}
 use Rattle.plan.specs.declared.tasks.Task.{Task}
 use Rattle.plan.specs.Tasks.{task_at, Valid, AllValid}
 use Rattle.plan.proofs.Tests.{le-or-lt, eq-or-ne, both, not-false, and_left, and_right, and_both}
-use Rattle.response.specs.Analysis.{own_demand, deadline_at, climb_from, busy_up_to, max_response}
+use Rattle.response.specs.Analysis.{own_demand, deadline_at, climb_from, busy_period, busy_up_to, max_response}
 use Rattle.response.specs.Analysis.{meets, first_meet, schedulable}
 use Rattle.response.specs.Claims.{Covers}
 use Rattle.response.specs.Inner.{Begins, busy_in_time}
@@ -24,10 +24,10 @@ module _ (ts : List Task) where
   module _ (xs ys : List ℕ) (i : ℕ) where
     pub busy-same : ((k : ℕ) → k < i → get_or xs k 0 ≡ get_or ys k 0) → (limit : ℕ)
         → busy_up_to limit ts xs i ≡ busy_up_to limit ts ys i
-    unfolding busy_up_to
+    unfolding busy_period
     busy-same h limit =
         let task = task_at ts i in
-        ap (λ needs. climb_from (suc limit) (limit - task.jitter) needs (own_demand task)) (fun_ext (λ t. demand-same ts xs ys i t h))
+        ap (λ needs. climb_from (suc (limit - task.jitter)) (limit - task.jitter) needs (own_demand task)) (fun_ext (λ t. demand-same ts xs ys i t h))
 
     pub meets-same : ((k : ℕ) → k ≤ i → get_or xs k 0 ≡ get_or ys k 0) → meets ts xs i ≡ meets ts ys i
     meets-same h =

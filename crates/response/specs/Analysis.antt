@@ -47,10 +47,13 @@ climb_from (suc left) limit needs t =
       | false ↦ elim (leb (needs t) t) [ true ↦ t | false ↦ climb_from left limit needs (needs t) ]
     ]
 
--- the field's busy period: the t at which "t plus its own late" is up to a limit; 0 where there is none
-unfoldable pub busy_up_to : ℕ → List Task → List ℕ → ℕ → ℕ
-busy_up_to limit ts xs i =
-    let task = task_at ts i in climb_from (suc limit) (limit - task.jitter) (demand ts xs i) (own_demand task)
+-- the field's busy period: the least t up to a last one that covers; 0 where there is none
+unfoldable pub busy_period : ℕ → List Task → List ℕ → ℕ → ℕ
+busy_period last ts xs i = climb_from (suc last) last (demand ts xs i) (own_demand (task_at ts i))
+
+-- "t plus its own late, and that sum is held against the deadline" or another limit
+abbrev pub busy_up_to : ℕ → List Task → List ℕ → ℕ → ℕ
+busy_up_to limit ts xs i = busy_period (limit - (task_at ts i).jitter) ts xs i
 
 -- "E4's ceiling of 2,000,000"
 abbrev pub max_response : ℕ

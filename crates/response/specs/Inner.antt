@@ -1,8 +1,8 @@
 -- What the inner functions ask and promise, for their callers' proofs. A reader of the public calls needs none of it.
-use Rattle.std.specs.Prelude.{◌≡◌, List, ℕ, zero, suc, ◌+◌, ◌*◌, ◌/◌, ◌≤◌, ◌<◌, length, get_or, Option, Some, None}
+use Rattle.std.specs.Prelude.{◌≡◌, List, ℕ, zero, suc, ◌+◌, ◌-◌, ◌*◌, ◌/◌, ◌≤◌, ◌<◌, length, get_or, Option, Some, None}
 use Rattle.plan.specs.declared.tasks.Task.{Task}
 use Rattle.plan.specs.Tasks.{max_tasks, max_ticks, task_at, Valid, AllValid}
-use Rattle.response.specs.Analysis.{deadline_at, max_response, busy_up_to}
+use Rattle.response.specs.Analysis.{deadline, deadline_at, max_response, busy_up_to}
 use Rattle.response.specs.Claims.{Covers}
 
 -- the busy period of a task that meets its deadline, 0 for one that misses it: whether it does is known once the
@@ -30,11 +30,18 @@ pub record Begins (limit : ℕ) (ts : List Task) (xs : List ℕ) (i t : ℕ) : T
   pub some : 1 ≤ t
   pub below : (s : ℕ) → Covers limit ts xs i s → t ≤ s
 
--- a climb of task i from a start
-pub record Climbs (limit : ℕ) (ts : List Task) (xs : List ℕ) (i start : ℕ) : Type 0 where
+-- the last t at which a task at a period meets its deadline, if that covers; 0 where there is none
+abbrev pub last_end : Task → ℕ → ℕ
+last_end task period = deadline task period - task.jitter
+
+abbrev pub last_end_at : List Task → List ℕ → ℕ → ℕ
+last_end_at ts xs i = last_end (task_at ts i) (get_or xs i 0)
+
+-- a climb of task i from a start up to a last t
+pub record Climbs (last : ℕ) (ts : List Task) (xs : List ℕ) (i start : ℕ) : Type 0 where
   pub inside : i < length ts
-  pub ends : limit ≤ max_response
-  pub begins : Begins limit ts xs i start
+  pub ends : last ≤ max_response
+  pub begins : Begins (last + (task_at ts i).jitter) ts xs i start
 
 -- a task's utilization of the processor, its wcet over its period, in parts of the whole and rounded down
 abbrev pub whole : ℕ

@@ -1,6 +1,6 @@
 ghost use Rattle.response.specs.Inner.{Limits};
 
-use super::tasks::{deadline, interference, own_demand};
+use super::tasks::{deadline, interference, last_end, own_demand};
 use super::utilization::begin_by_utilization;
 use plan::Plan;
 
@@ -21,12 +21,12 @@ pub struct Assignment<'a> {
 impl<'a> Assignment<'a> {
     ghost use Rattle.std.specs.Prelude.{◌≡◌, ◌≤◌, ◌<◌, length, IfSome};
     ghost use Rattle.plan.specs.Promises.{plan_tasks};
-    ghost use Rattle.response.specs.Analysis.{demand, busy_up_to, max_response, response_time, deadline_at};
+    ghost use Rattle.response.specs.Analysis.{demand, busy_period, max_response, response_time, deadline_at};
     ghost use Rattle.response.specs.Analysis.{slack, meets, schedulable, slack_list, first_missed};
-    ghost use Rattle.response.specs.Inner.{Climbs, utilization_above, some_time, some_task};
+    ghost use Rattle.response.specs.Inner.{Climbs, last_end_at, utilization_above, some_time, some_task};
 
     // The deadline of task i.
-    pub fn deadline(&self, i: usize) -> u32
+    fn deadline(&self, i: usize) -> u32
         requires { i < length self.now.periods.now }
         ensures { result ≡ deadline_at (plan_tasks self.now.plan.now) self.now.periods.now i }
     {
@@ -46,13 +46,20 @@ impl<'a> Assignment<'a> {
         sum
     }
 
-    // The busy period of task i: the least t that covers its demand by t, none where t and its jitter are past a limit.
-    // The climb, from a time that no such t undercuts.
-    pub fn busy_from(&self, i: usize, limit: u32, start: u32) -> Option<u32>
-        requires { Climbs limit (plan_tasks self.now.plan.now) self.now.periods.now i start }
-        ensures { result ≡ some_time (busy_up_to limit (plan_tasks self.now.plan.now) self.now.periods.now i) }
+    // The last t at which task i meets its deadline, if that covers its demand.
+    pub fn last_end(&self, i: usize) -> u32
+        requires { i < length self.now.periods.now }
+        ensures { result ≡ last_end_at (plan_tasks self.now.plan.now) self.now.periods.now i }
     {
-        let last = limit.saturating_sub(self.plan.tasks[i].jitter);
+        last_end(&self.plan.tasks[i], self.periods[i])
+    }
+
+    // The busy period of task i: the least t up to a last one that covers its demand by t, none past it: the climb,
+    // from a time that no such t undercuts.
+    pub fn busy_from(&self, i: usize, last: u32, start: u32) -> Option<u32>
+        requires { Climbs last (plan_tasks self.now.plan.now) self.now.periods.now i start }
+        ensures { result ≡ some_time (busy_period last (plan_tasks self.now.plan.now) self.now.periods.now i) }
+    {
         if last < start {
             return None;
         }
@@ -76,7 +83,8 @@ impl<'a> Assignment<'a> {
         ensures { result ≡ some_time (response_time (plan_tasks self.now.plan.now) self.now.periods.now i) }
     {
         let task = &self.plan.tasks[i];
-        let busy = self.busy_from(i, MAX_RESPONSE, own_demand(task))?;
+        let last = MAX_RESPONSE - task.jitter;
+        let busy = self.busy_from(i, last, own_demand(task))?;
         Some(busy + task.jitter)
     }
 
@@ -89,7 +97,7 @@ impl<'a> Assignment<'a> {
     {
         let task = &self.plan.tasks[i];
         let start = begin_by_utilization(own_demand(task), above, MAX_RESPONSE);
-        match self.busy_from(i, MAX_RESPONSE, start) {
+        match self.busy_from(i, MAX_RESPONSE - task.jitter, start) {
             Some(busy) => self.deadline(i) as i32 - (busy + task.jitter) as i32,
             None => NO_SLACK,
         }
@@ -101,7 +109,7 @@ impl<'a> Assignment<'a> {
         ensures { result ≡ meets (plan_tasks self.now.plan.now) self.now.periods.now i }
     {
         let start = own_demand(&self.plan.tasks[i]);
-        self.busy_from(i, self.deadline(i), start).is_some()
+        self.busy_from(i, self.last_end(i), start).is_some()
     }
 
     // Whether every task meets its deadline. The lowest is tried first: it is mostly the one that misses.

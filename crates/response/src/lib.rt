@@ -14,5 +14,5 @@ pub use times::{Times, response_times};
 
 // for the layers above
 pub use assignment::Assignment;
-pub use tasks::{deadline, own_demand};
+pub use tasks::{deadline, last_end, own_demand};
 pub use times::{check_periods, times_of};

@@ -1,7 +1,7 @@
 ghost use Rattle.std.specs.Prelude.{◌≡◌, ◌+◌, ◌*◌, ◌≤◌};
 ghost use Rattle.plan.specs.Tasks.{max_ticks, max_jitter, Valid};
 ghost use Rattle.response.specs.Analysis.{own_demand, interference, deadline, max_response};
-ghost use Rattle.response.specs.Inner.{Interferes};
+ghost use Rattle.response.specs.Inner.{Interferes, last_end};
 
 use plan::Task;
 
@@ -10,6 +10,13 @@ pub fn deadline(task: &Task, period: u32) -> u32
     ensures { result ≡ deadline task.now period }
 {
     period.min(task.deadline_cap)
+}
+
+// The last t at which a task at a period meets its deadline, if that covers its demand.
+pub fn last_end(task: &Task, period: u32) -> u32
+    ensures { result ≡ last_end task.now period }
+{
+    deadline(task, period).saturating_sub(task.jitter)
 }
 
 // What a task demands for itself.

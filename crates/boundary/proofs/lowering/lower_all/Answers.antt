@@ -16,7 +16,7 @@ invariant_of-assignment c = record { limits = lowering-limits c.loop-i.invariant
 pub unwrap-own-requires : goal.unwrap-own-requires
 unwrap-own-requires c =
     let inside = rw c.deref-least-items.ensures.0 at c.loop-i-test.true in
-    rw (c.busy_from.ensures, c.deadline.ensures) (found _ (lowering-responds c.loop-i.invariant inside))
+    rw (c.busy_from.ensures, c.last_end.ensures) (found _ (lowering-responds c.loop-i.invariant inside))
 
 pub overflow_sub-least : goal.overflow_sub-least
 overflow_sub-least c =
@@ -25,14 +25,14 @@ overflow_sub-least c =
 pub last_miss_from-miss-requires : goal.last_miss_from-miss-requires
 last_miss_from-miss-requires c =
     let node = c.deref-least-items.ensures.0 in
-    let own = found-some _ (sym (rw c.deadline.ensures at c.busy_from.ensures) ∙ c.unwrap-own.ensures) in
+    let own = found-some _ (sym (rw c.last_end.ensures at c.busy_from.ensures) ∙ c.unwrap-own.ensures) in
     rw node (lowering-seeks c.loop-i.invariant (rw node at c.loop-i-test.true) own.0)
 
 pub overflow_add-cost : goal.overflow_add-cost
 overflow_add-cost c =
     let g = c.loop-i.invariant in
     let node = c.deref-least-items.ensures.0 in
-    let own = found-some _ (sym (rw c.deadline.ensures at c.busy_from.ensures) ∙ c.unwrap-own.ensures) in
+    let own = found-some _ (sym (rw c.last_end.ensures at c.busy_from.ensures) ∙ c.unwrap-own.ensures) in
     let weight = rw c.deref.ensures.0 at c.from.ensures in
     let step : c.from.result * c.from-in-loop-i.result ≤ max_weight * max_ticks =
     rw (c.from-in-loop-i.ensures, node)
@@ -43,7 +43,7 @@ pub returns-then-limit-cost : goal.returns-then-limit-cost
 returns-then-limit-cost c =
     let e = c.last_miss_from-miss.ensures in
     let node = c.deref-least-items.ensures.0 in
-    let own = found-some _ (sym (rw c.deadline.ensures at c.busy_from.ensures) ∙ c.unwrap-own.ensures) in
+    let own = found-some _ (sym (rw c.last_end.ensures at c.busy_from.ensures) ∙ c.unwrap-own.ensures) in
     let weight = rw c.deref.ensures.0 at c.from.ensures in
     let longer = rw node at c.from-in-loop-i.ensures in
     let inside = rw node at c.loop-i-test.true in
@@ -54,7 +54,7 @@ pub loop-i-preserved : goal.loop-i-preserved
 loop-i-preserved c =
     let e = c.last_miss_from-miss.ensures in
     let node = c.deref-least-items.ensures.0 in
-    let own = found-some _ (sym (rw c.deadline.ensures at c.busy_from.ensures) ∙ c.unwrap-own.ensures) in
+    let own = found-some _ (sym (rw c.last_end.ensures at c.busy_from.ensures) ∙ c.unwrap-own.ensures) in
     let weight = rw c.deref.ensures.0 at c.from.ensures in
     let longer = rw node at c.from-in-loop-i.ensures in
     let inside = rw node at c.loop-i-test.true in

@@ -9,7 +9,7 @@ use Rattle.boundary.proofs.misses.last_miss.Goals as goal
 use Rattle.boundary.proofs.misses.last_miss.Goals.{in-None, in-Some}
 
 pub loop-last-init : goal.loop-last-init
-loop-last-init c = probing-start (seeks-probes c.requires c.deadline-deadline.ensures) c.requires.begins
+loop-last-init c = probing-start (seeks-probes c.requires c.last_end-end.ensures) c.requires.begins
 
 pub busy_from-requires : goal.busy_from-requires
 busy_from-requires c = probing-climbs c.loop-last.invariant c.probe-period.ensures

@@ -7,15 +7,12 @@ pub returns-then-last-start : goal.returns-then-last-start
 returns-then-last-start c =
     let plan = c.args.self.now.plan.now in
     let works = own-some (plan_tasks plan) plan.valid c.args.i c.requires.inside in
-    let last = rw c.deref.ensures.0 at c.saturating_sub-last.ensures in
-    past works c.requires.begins (omega (arith, last, c.requires.begins.some))
+    past works c.requires.begins (omega arith)
 
 pub loop-demand-preserved : goal.loop-demand-preserved
 loop-demand-preserved c =
-    let plan = c.args.self.now.plan.now in
-    let works = own-some (plan_tasks plan) plan.valid c.args.i c.requires.inside in
     record {
-      begins = goes_on works c.loop-demand.invariant.begins c.demand-demand.ensures (omega arith);
+      begins = goes_on c.loop-demand.invariant.begins c.demand-demand.ensures (omega arith);
       early = omega arith;
     }
 
@@ -23,14 +20,10 @@ pub returns-then-demand-from : goal.returns-then-demand-from
 returns-then-demand-from c =
     let plan = c.args.self.now.plan.now in
     let works = own-some (plan_tasks plan) plan.valid c.args.i c.requires.inside in
-    let last = rw c.deref.ensures.0 at c.saturating_sub-last.ensures in
-    let begins = c.loop-demand.invariant.begins in
-    stops works begins c.demand-demand.ensures (omega (arith, last, begins.some)) (omega arith)
+    stops works c.loop-demand.invariant.begins c.demand-demand.ensures (omega arith) (omega arith)
 
 pub returns-then-from-demand : goal.returns-then-from-demand
 returns-then-from-demand c =
     let plan = c.args.self.now.plan.now in
     let works = own-some (plan_tasks plan) plan.valid c.args.i c.requires.inside in
-    let last = rw c.deref.ensures.0 at c.saturating_sub-last.ensures in
-    let on = goes_on works c.loop-demand.invariant.begins c.demand-demand.ensures (omega arith) in
-    past works on (omega (arith, last, on.some))
+    past works (goes_on c.loop-demand.invariant.begins c.demand-demand.ensures (omega arith)) (omega arith)

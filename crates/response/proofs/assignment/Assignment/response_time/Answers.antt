@@ -8,5 +8,5 @@ busy_from-requires c =
 
 pub overflow_add-result : goal.overflow_add-result
 overflow_add-result c =
-    let t = found-up_to c.args.self.now.limits c.requires c.busy_from.ensures c.in_ok-busy.was in
+    let t = found-up_to c.args.self.now.limits c.requires (rw c.deref.ensures.0 at c.busy_from.ensures) c.in_ok-busy.was in
     rw c.deref.ensures.0 (omega (arith, t.early))
