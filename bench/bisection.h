@@ -9,16 +9,16 @@ static uint32_t greatest_late(const struct plan *plan, uint32_t *periods, uint32
     if (late == beyond)
         return late;
     periods[i] = late + 1;
-    if (response_time(plan, periods, k) != 0)
+    if (meets_deadline(plan, periods, k))
         return late;
     late++;
     periods[i] = beyond;
-    if (response_time(plan, periods, k) == 0)
+    if (!meets_deadline(plan, periods, k))
         return beyond;
     while (beyond - late > 1) {
         uint32_t middle = late + (beyond - late) / 2;
         periods[i] = middle;
-        if (response_time(plan, periods, k) == 0)
+        if (!meets_deadline(plan, periods, k))
             late = middle;
         else
             beyond = middle;
@@ -37,6 +37,6 @@ static void raise_to_mua(const struct plan *plan, uint32_t *periods)
         for (uint32_t k = i; k < plan->n && late < plan->period_max[i]; k++)
             late = greatest_late(plan, periods, i, k, late);
         periods[i] = late;
-        late_above = late_above || response_time(plan, periods, i) == 0;
+        late_above = late_above || !meets_deadline(plan, periods, i);
     }
 }

@@ -4,8 +4,8 @@
 
 /* Lowers the greatest periods in turn, each to the least value from the node's on
  * that leaves all schedulable; returns their cost, or where that is above `limit`
- * something above it. The lowest task responds no earlier than before: its climbs
- * begin there. */
+ * something above it. The lowest task's busy period is no shorter than before: its
+ * climbs begin there. */
 static uint64_t lower_to(const struct plan *plan, const uint32_t *node, uint64_t node_cost, uint64_t limit,
                          uint32_t *periods)
 {
@@ -14,11 +14,11 @@ static uint64_t lower_to(const struct plan *plan, const uint32_t *node, uint64_t
 
     memcpy(periods, plan->period_max, plan->n * sizeof *periods);
     for (uint32_t i = 0; i < plan->n && cost <= limit; i++) {
-        own = response_from(plan, periods, i, deadline_at(plan, i, periods[i]), start_at(plan, i, own));
+        own = busy_from(plan, periods, i, last_end(plan, i, periods[i]), start_at(plan, i, own));
         struct miss miss = last_miss_from(plan, periods, i, own, node[i] - 1, start);
         periods[i] = miss.last + 1;
         cost += (uint64_t)plan->weight[i] * (periods[i] - node[i]);
-        start = miss.response;
+        start = miss.busy;
     }
     return cost;
 }

@@ -20,6 +20,7 @@ struct plan {
     uint32_t deadline_cap[TASKS_MAX];
     uint32_t weight[TASKS_MAX];
     uint32_t blocking[TASKS_MAX];
+    uint32_t jitter[TASKS_MAX];
 };
 
 struct outcome {
@@ -70,21 +71,20 @@ static uint32_t refuse(uint32_t number, uint32_t place, uint32_t *where)
 /* 0 for an unknown version. */
 static uint32_t row_width(uint32_t version) { return version == 1 ? ROW_1 : version == 2 ? ROW_2 : 0; }
 
-/* Row i into the plan; 0 if a field is outside its limits. Jitter has no effect yet. */
+/* Row i into the plan; 0 if a field is outside its limits. */
 static int read_row(const uint8_t *row, uint32_t width, struct plan *plan, uint32_t i)
 {
-    uint32_t jitter = width == ROW_2 ? u32_at(row + 24) : 0;
-
     plan->wcet[i] = u32_at(row);
     plan->period_min[i] = u32_at(row + 4);
     plan->period_max[i] = u32_at(row + 8);
     plan->deadline_cap[i] = u32_at(row + 12);
     plan->weight[i] = u32_at(row + 16);
     plan->blocking[i] = width == ROW_2 ? u32_at(row + 20) : 0;
+    plan->jitter[i] = width == ROW_2 ? u32_at(row + 24) : 0;
     plan->own_demand[i] = plan->wcet[i] + plan->blocking[i];
     return is_tick(plan->wcet[i]) && is_tick(plan->period_min[i]) && is_tick(plan->period_max[i]) &&
            is_tick(plan->deadline_cap[i]) && plan->weight[i] <= WEIGHT_MAX && plan->blocking[i] <= TICK_MAX &&
-           jitter <= TICK_MAX;
+           plan->jitter[i] <= TICK_MAX;
 }
 
 /* 0, or the number of the first broken rule with its place. */
@@ -136,30 +136,37 @@ static uint32_t deadline_at(const struct plan *plan, uint32_t k, uint32_t period
 
 static uint32_t rounded_up(uint32_t a, uint32_t b) { return (a + b - 1) / b; }
 
-/* The least t up to `limit` that covers task k's demand by t, 0 where there is
- * none. No such t may be below `start`. */
-static uint32_t response_from(const struct plan *plan, const uint32_t *periods, uint32_t k, uint32_t limit,
-                              uint32_t start)
+/* The last t at which task k, which responds its jitter later, meets its deadline; 0,
+ * at which no busy period ends, where there is none. */
+static uint32_t last_end(const struct plan *plan, uint32_t k, uint32_t period)
+{
+    uint32_t deadline = deadline_at(plan, k, period);
+
+    return deadline > plan->jitter[k] ? deadline - plan->jitter[k] : 0;
+}
+
+/* The busy period of task k: the least t up to `last` that covers its demand by t, 0
+ * where there is none. No such t may be below `start`. */
+static uint32_t busy_from(const struct plan *plan, const uint32_t *periods, uint32_t k, uint32_t last, uint32_t start)
 {
     uint32_t t = start;
 
-    while (t <= limit) {
+    while (t <= last) {
         uint64_t demand = plan->own_demand[k];
         for (uint32_t j = 0; j < k; j++)
-            demand += (uint64_t)plan->wcet[j] * rounded_up(t, periods[j]);
+            demand += (uint64_t)plan->wcet[j] * rounded_up(t + plan->jitter[j], periods[j]);
         if (demand <= t)
             return t;
-        if (demand > limit)
+        if (demand > last)
             return 0;
         t = (uint32_t)demand;
     }
     return 0;
 }
 
-/* The response time, 0 where the task misses its deadline. */
-static uint32_t response_time(const struct plan *plan, const uint32_t *periods, uint32_t k)
+static int meets_deadline(const struct plan *plan, const uint32_t *periods, uint32_t k)
 {
-    return response_from(plan, periods, k, deadline_at(plan, k, periods[k]), plan->own_demand[k]);
+    return busy_from(plan, periods, k, last_end(plan, k, periods[k]), plan->own_demand[k]) != 0;
 }
 
 /* The first task that misses its deadline, or n. */
@@ -167,7 +174,7 @@ static uint32_t first_late(const struct plan *plan, const uint32_t *periods)
 {
     uint32_t k = 0;
 
-    while (k < plan->n && response_time(plan, periods, k) != 0)
+    while (k < plan->n && meets_deadline(plan, periods, k))
         k++;
     return k;
 }
@@ -176,7 +183,7 @@ static uint32_t first_late(const struct plan *plan, const uint32_t *periods)
 static int is_schedulable(const struct plan *plan, const uint32_t *periods)
 {
     for (uint32_t k = plan->n; k-- > 0;)
-        if (response_time(plan, periods, k) == 0)
+        if (!meets_deadline(plan, periods, k))
             return 0;
     return 1;
 }
@@ -307,7 +314,7 @@ static void search(const struct plan *plan, uint64_t budget, struct outcome *out
     uint32_t n = plan->n;
 
     for (uint32_t i = 0; i < n; i++)
-        if (plan->own_demand[i] > deadline_at(plan, i, plan->period_max[i])) {
+        if (plan->own_demand[i] + plan->jitter[i] > deadline_at(plan, i, plan->period_max[i])) {
             outcome->number = refuse(31, i + 1, &outcome->place);
             return;
         }

@@ -11,7 +11,7 @@ mod plans;
 
 use model::{Node, Outcome, Outcomes, Task, TICK_MAX};
 use plans::{
-    blocked_plan, damaged_file, dearest_plan, encode, extreme_plan, filled, held, infeasible_plan, jitter_some,
+    damaged_file, dearest_plan, delayed, encode, extreme_plan, filled, infeasible_plan, infeasible_plan_2,
     latest_plan, limit_files, loaded_plan, named, put, random_plan, small_plan, sound_file, tight, version_traps,
     Layout, Random, FILE_MAX,
 };
@@ -180,6 +180,26 @@ impl Comparison {
             self.check(random, file, budget);
         }
     }
+
+    /// Sixteen tasks in version 2 that get this number and place in one round.
+    fn says(&mut self, random: &mut Random, tasks: &[Task], number: u32, place: u32) {
+        let file = encode(tasks, &tight(2, 16));
+        self.files += 1;
+        let outcome = self.check(random, &file, 1).cheapest;
+        if (outcome.number, outcome.place) != (number, place) {
+            self.fail("another number or place than by hand", &file, 1, &outcome, &[]);
+        }
+    }
+}
+
+/// The response times, none of a task that is late, as the model climbs to them.
+fn climbed(tasks: &[Task], periods: &[u64]) -> Vec<Option<u64>> {
+    (0..tasks.len()).map(|i| model::response_time(tasks, periods, i)).collect()
+}
+
+/// The same by their definition.
+fn scanned(tasks: &[Task], periods: &[u64]) -> Vec<Option<u64>> {
+    (0..tasks.len()).map(|i| model::response_time_by_scan(tasks, periods, i)).collect()
 }
 
 /// The time test by its definition.
@@ -287,8 +307,11 @@ fn small_plans(
         if !demands_hold(&tasks, &outcomes, &least, assignments, u64::MAX, space) {
             comparison.fail("in a small space: not what trying all gives", &file, u64::MAX, &outcomes.best, &[]);
         }
-        // The model's lowering of any node, against its definition.
+        // The model's times and lowering of any node, against their definitions.
         let node: Vec<u64> = tasks.iter().map(|task| random.within(task.period_min, task.period_max)).collect();
+        if climbed(&tasks, &node) != scanned(&tasks, &node) {
+            comparison.fail("the times differ", &file, 0, &Outcome { periods: node, ..Outcome::default() }, &[]);
+        }
         if least.is_some() && model::lowering(&tasks, &node) != lowering_by_scan(&tasks, &node) {
             comparison.fail("the lowering differs", &file, 0, &Outcome { periods: node, ..Outcome::default() }, &[]);
         }
@@ -322,8 +345,7 @@ fn sound_plans(
     }
 }
 
-/// In version 2, without blocking and whatever the jitter, a plan is answered as in
-/// version 1.
+/// In version 2, with every blocking and jitter 0, a plan is answered as in version 1.
 fn same_answers(
     comparison: &mut Comparison,
     random: &mut Random,
@@ -331,13 +353,10 @@ fn same_answers(
     plan: impl Fn(&mut Random) -> Vec<Task>,
 ) {
     for _ in 0..count {
-        let mut tasks = plan(random);
+        let tasks = plan(random);
         let budget = random.within(0, 12);
         let plain = sound_file(random, 1, &tasks);
         let wanted = comparison.call(random, &plain, budget);
-        if random.chance(2) {
-            jitter_some(random, &mut tasks);
-        }
         let file = sound_file(random, 2, &tasks);
         comparison.files += 1;
         let outcomes = comparison.check(random, &file, budget);
@@ -361,9 +380,8 @@ fn plan_s() -> Vec<Task> {
 /// number, place, cost, rounds, bound and periods.
 fn examples() {
     let times = |tasks: &[Task], periods: &[u64]| -> Vec<u64> {
-        let all: Vec<_> = (0..tasks.len()).map(|i| model::response_time(tasks, periods, i)).collect();
-        let scanned: Vec<_> = (0..tasks.len()).map(|i| model::response_time_by_scan(tasks, periods, i)).collect();
-        assert_eq!(all, scanned);
+        let all = climbed(tasks, periods);
+        assert_eq!(all, scanned(tasks, periods));
         all.iter().map(|time| time.unwrap_or(0)).collect()
     };
     let (p, s) = (plan_p(), plan_s());
@@ -375,14 +393,27 @@ fn examples() {
     assert_eq!(times(&s, &[105, 140, 210, 280, 420, 839]), [20, 50, 90, 190, 410, 0]);
     let full = named(&[(2, 1, 10, 1_000, 1), (3, 1, 10, 1_000, 1)]);
     assert_eq!(times(&full, &[4, 6]), [2, 0]);
-    // The gauge's blocking is in its own time only, jitter in none.
-    let gauge_blocked = filled(plan_p(), &[(2, 9), (0, 9)]);
+    // The gauge's blocking is in its own time only.
+    let gauge_blocked = filled(plan_p(), &[(2, 0), (0, 0)]);
     assert_eq!(times(&gauge_blocked, &[3, 3]), [3, 3]);
     assert_eq!(times(&gauge_blocked, &[2, 4]), [0, 4]);
     let radio_blocked = filled(plan_p(), &[(0, 0), (1, 0)]);
     assert_eq!(times(&radio_blocked, &[2, 6]), [1, 6]);
     assert_eq!(times(&radio_blocked, &[2, 5]), [1, 0]);
     assert_eq!(times(&radio_blocked, &[4, 4]), [1, 4]);
+    // Jitter comes behind a task's own time; that of the gauge may bring one more run of it.
+    let gauge_jitter = filled(plan_p(), &[(0, 3), (0, 0)]);
+    assert_eq!(times(&gauge_jitter, &[4, 4]), [4, 4]);
+    assert_eq!(times(&gauge_jitter, &[3, 8]), [0, 5]);
+    assert_eq!(times(&gauge_jitter, &[6, 3]), [4, 3]);
+    assert_eq!(times(&gauge_jitter, &[5, 3]), [4, 0]);
+    let radio_jitter = filled(plan_p(), &[(0, 0), (0, 3)]);
+    assert_eq!(times(&radio_jitter, &[2, 7]), [1, 7]);
+    assert_eq!(times(&radio_jitter, &[2, 6]), [1, 0]);
+    let both = filled(plan_p(), &[(0, 3), (1, 2)]);
+    assert_eq!(times(&both, &[4, 7]), [4, 7]);
+    assert_eq!(times(&both, &[4, 6]), [4, 0]);
+    assert_eq!(times(&filled(plan_p(), &[(0, 9), (0, 0)]), &[6, 8]), [0, 5]);
 
     let says =
         |tasks: &[Task], budget: u64, space: u64, number: u32, place: u32, numbers: [u64; 3], periods: &[u64]| {
@@ -414,14 +445,36 @@ fn examples() {
     says(&gauge_blocked, 100, ample, 0, 0, [6, 3, 0], &[3, 3]);
     // (3, 5) and (4, 4) cost as much and come later.
     says(&radio_blocked, 100, ample, 0, 0, [8, 5, 0], &[2, 6]);
-    let single = |cap: u64, blocking: u64| filled(named(&[(5, 3, 10, cap, 1)]), &[(blocking, TICK_MAX)]);
-    says(&single(1_000, 5), 100, ample, 0, 0, [10, 2, 0], &[10]);
-    says(&single(1_000, 6), 100, ample, 31, 1, [0, 0, 0], &[]);
-    says(&single(7, 2), 100, ample, 0, 0, [7, 2, 0], &[7]);
-    says(&single(7, 3), 100, ample, 31, 1, [0, 0, 0], &[]);
+    let single = |cap: u64, blocking: u64, jitter: u64| filled(named(&[(5, 3, 10, cap, 1)]), &[(blocking, jitter)]);
+    for (blocking, jitter) in [(5, 0), (0, 5), (2, 3)] {
+        says(&single(1_000, blocking, jitter), 100, ample, 0, 0, [10, 2, 0], &[10]);
+        says(&single(1_000, blocking + 1, jitter), 100, ample, 31, 1, [0, 0, 0], &[]);
+        says(&single(1_000, blocking, jitter + 1), 100, ample, 31, 1, [0, 0, 0], &[]);
+    }
+    for (blocking, jitter) in [(2, 0), (0, 2), (1, 1)] {
+        says(&single(7, blocking, jitter), 100, ample, 0, 0, [7, 2, 0], &[7]);
+        says(&single(7, blocking + 1, jitter), 100, ample, 31, 1, [0, 0, 0], &[]);
+        says(&single(7, blocking, jitter + 1), 100, ample, 31, 1, [0, 0, 0], &[]);
+    }
+    for jitter in [6, 7, 8, 9, 10, 11, TICK_MAX] {
+        says(&single(7, 0, jitter), 100, ample, 31, 1, [0, 0, 0], &[]);
+    }
     says(&filled(plan_p(), &[(0, 0), (4, 0)]), 100, ample, 0, 0, [12, 3, 0], &[4, 8]);
     says(&filled(plan_p(), &[(0, 0), (6, 0)]), 100, ample, 32, 2, [0, 0, 0], &[]);
     says(&filled(plan_p(), &[(0, 0), (7, 0)]), 100, ample, 31, 2, [0, 0, 0], &[]);
+    says(&gauge_jitter, 100, ample, 0, 0, [8, 4, 0], &[4, 4]);
+    says(&filled(plan_p(), &[(0, 3), (1, 0)]), 100, ample, 0, 0, [9, 3, 0], &[4, 5]);
+    says(&filled(plan_p(), &[(0, 5), (0, 0)]), 100, ample, 0, 0, [10, 3, 0], &[6, 4]);
+    says(&filled(plan_p(), &[(0, 6), (0, 0)]), 100, ample, 31, 1, [0, 0, 0], &[]);
+    // (3, 4) costs as much and comes later.
+    says(&filled(plan_p(), &[(0, 0), (0, 1)]), 100, ample, 0, 0, [7, 4, 0], &[2, 5]);
+    says(&filled(plan_p(), &[(0, 0), (0, 5)]), 100, ample, 0, 0, [11, 3, 0], &[3, 8]);
+    says(&filled(plan_p(), &[(0, 0), (0, 6)]), 100, ample, 32, 2, [0, 0, 0], &[]);
+    says(&filled(plan_p(), &[(0, 0), (0, 7)]), 100, ample, 31, 2, [0, 0, 0], &[]);
+    // The gauge's jitter makes the radio late, not the gauge.
+    let radio_capped = named(&[(1, 1, 6, 1_000, 1), (2, 1, 8, 3, 1)]);
+    says(&filled(radio_capped.clone(), &[(0, 3), (0, 0)]), 100, ample, 0, 0, [9, 3, 0], &[6, 3]);
+    says(&filled(radio_capped, &[(0, 4), (0, 0)]), 100, ample, 32, 2, [0, 0, 0], &[]);
 }
 
 /// Plans made by hand: plan S, which must stop with 34, a late incumbent, the
@@ -503,27 +556,48 @@ fn flipped_and_cut(comparison: &mut Comparison, random: &mut Random, file: &[u8]
     }
 }
 
-/// Each task responds just at its deadline; by a tick more it is the one that is late.
+/// Each task responds just at its deadline; by a tick more it is the one that is late. By
+/// a tick of jitter in place of one of blocking it is not, but the task right below is.
 fn latest_responses(comparison: &mut Comparison, random: &mut Random) {
-    let says = |comparison: &mut Comparison, random: &mut Random, tasks: &[Task], number: u32, place: u32| {
-        let file = encode(tasks, &tight(2, 16));
-        comparison.files += 1;
-        let outcome = comparison.check(random, &file, 1).cheapest;
-        if (outcome.number, outcome.place) != (number, place) {
-            comparison.fail("the latest responses", &file, 1, &outcome, &[]);
-        }
-    };
     let latest = latest_plan();
-    says(comparison, random, &latest, 0, 0);
+    comparison.says(random, &latest, 0, 0);
     for i in 0..16 {
+        let (number, place) = (if i == 0 { 31 } else { 32 }, i as u32 + 1);
         let mut late = latest.clone();
         late[i].blocking += 1;
-        says(comparison, random, &late, if i == 0 { 31 } else { 32 }, i as u32 + 1);
+        comparison.says(random, &late, number, place);
+        late[i].blocking -= 1;
+        late[i].jitter += 1;
+        comparison.says(random, &late, number, place);
+        late[i].blocking -= 1;
+        let (number, place) = if i < 15 { (32, place + 1) } else { (0, 0) };
+        comparison.says(random, &late, number, place);
+    }
+}
+
+/// All tasks but the upper respond just at their deadlines. Its jitter, with which it is on
+/// time itself, makes the lower the first late one, by one more run; a tick less of it
+/// makes that the next one, where there is one.
+fn late_below(comparison: &mut Comparison, random: &mut Random) {
+    for upper in 0..16 {
+        for lower in upper + 1..16 {
+            let mut tasks = named(&[(2, 40, 40, 40, 1); 16]);
+            for (i, task) in tasks.iter_mut().enumerate().filter(|(i, _)| *i != upper) {
+                task.deadline_cap = 2 * (i as u64 + 1);
+            }
+            tasks[upper].jitter = 41 - tasks[lower].deadline_cap;
+            let place = lower as u32 + 1;
+            comparison.says(random, &tasks, 32, place);
+            tasks[upper].jitter -= 1;
+            let (number, place) = if lower < 15 { (32, place + 1) } else { (0, 0) };
+            comparison.says(random, &tasks, number, place);
+        }
     }
 }
 
 /// Files of version 2 made by hand: rows of either width under many version numbers, the
-/// two further fields about their limits, and responses at the last tick there is.
+/// two further fields about their limits, responses at the last tick there is, jitter that
+/// makes a task below late, and the most jitter everywhere.
 fn chosen_files_2(comparison: &mut Comparison, random: &mut Random) {
     for n in [1, 2, 16] {
         let numbers = [0, 1, 2, 3, 256, 257, 258, 513, 0xffff];
@@ -536,11 +610,16 @@ fn chosen_files_2(comparison: &mut Comparison, random: &mut Random) {
         comparison.file(random, &file, &[0, 3]);
     }
     latest_responses(comparison, random);
+    late_below(comparison, random);
+    let most = named(&[(1, 1_000, TICK_MAX, TICK_MAX, 1); 16]);
+    comparison.says(random, &filled(most.clone(), &[(TICK_MAX, TICK_MAX); 16]), 31, 1);
+    comparison.says(random, &filled(most.clone(), &[(0, TICK_MAX); 16]), 31, 1);
+    comparison.says(random, &filled(most, &[(0, TICK_MAX - 1); 16]), 32, 2);
 
-    let one = filled(named(&[(5, 3, 10, 1_000, 1)]), &[(3, 258)]);
+    let one = filled(named(&[(5, 3, 300, 1_000, 1)]), &[(3, 258)]);
     let layout = Layout { version: 2, rows: 17, names: 46, total: 63 };
     flipped_and_cut(comparison, random, &encode(&one, &layout));
-    let two = encode(&filled(plan_p(), &[(2, 0), (1, 65_536)]), &tight(2, 2));
+    let two = encode(&filled(plan_p(), &[(2, 1), (1, 2)]), &tight(2, 2));
     flipped_and_cut(comparison, random, &two);
     comparison.check_lengths(random, &two);
 }
@@ -640,16 +719,16 @@ fn version_2(seed: u64, random: &mut Random) -> Comparison {
     chosen_files_2(&mut comparison, random);
     same_answers(&mut comparison, random, 2_000, small_plan);
     same_answers(&mut comparison, random, 500, random_plan);
-    small_plans(&mut comparison, random, 40_000, held(small_plan));
+    small_plans(&mut comparison, random, 40_000, delayed(small_plan));
     damaged_files(&mut comparison, random, 75_000);
-    sound_plans(&mut comparison, random, 4_000, blocked_plan, |random| vec![random.within(0, 1)]);
-    sound_plans(&mut comparison, random, 1_500, held(extreme_plan), |random| vec![random.within(0, 3)]);
-    sound_plans(&mut comparison, random, 4_000, held(random_plan), |random| {
+    sound_plans(&mut comparison, random, 4_000, infeasible_plan_2, |random| vec![random.within(0, 1)]);
+    sound_plans(&mut comparison, random, 1_500, delayed(extreme_plan), |random| vec![random.within(0, 3)]);
+    sound_plans(&mut comparison, random, 4_000, delayed(random_plan), |random| {
         vec![random.of(&[0, 1, 2]), random.within(3, 12)]
     });
-    sound_plans(&mut comparison, random, 100, held(random_plan), |random| vec![random.within(50, 300)]);
-    sound_plans(&mut comparison, random, 100, held(long_plan), |random| vec![random.within(500, 1_500)]);
-    sound_plans(&mut comparison, random, 14, held(overfull_plan), |_| vec![u64::MAX]);
+    sound_plans(&mut comparison, random, 100, delayed(random_plan), |random| vec![random.within(50, 300)]);
+    sound_plans(&mut comparison, random, 100, delayed(long_plan), |random| vec![random.within(500, 1_500)]);
+    sound_plans(&mut comparison, random, 14, delayed(overfull_plan), |_| vec![u64::MAX]);
     alike_names(&mut comparison, random, 2);
     comparison
 }

@@ -67,14 +67,14 @@ static const uint8_t HELD[HELD_LENGTH] = {
     'r', 'a', 'd', 'i', 'o', 0, 0, 0, 0, 0, 0, 0, 0, 0, 0, 0,
 };
 
-/* Its answer, byte for byte: cost 8, rounds 5, periods 2 and 6. */
+/* Its answer, byte for byte: cost 9, rounds 3, periods 4 and 5. */
 static const uint8_t HELD_ANSWER[DESK_BLOCK_LENGTH] = {
     0, 0, 0, 0, 0, 0, 0, 0,
-    8, 0, 0, 0, 0, 0, 0, 0,
-    5, 0, 0, 0, 0, 0, 0, 0,
+    9, 0, 0, 0, 0, 0, 0, 0,
+    3, 0, 0, 0, 0, 0, 0, 0,
     0, 0, 0, 0, 0, 0, 0, 0,
     2, 0, 0, 0,
-    2, 0, 0, 0, 6, 0, 0, 0,
+    4, 0, 0, 0, 5, 0, 0, 0,
 };
 
 /* One call within guards. `wanted` is the block afterwards, or null where it
@@ -233,25 +233,43 @@ static void test_refusals(void)
     changed("gauge at 1 only", P_ROWS + 8, 1, 4, DESK_NONE, 2, 2);
 }
 
+/* HELD with other holds and lates, each of gauge and of radio, and its answer. Gauge's
+ * hold lengthens its own period only; its late may make radio wait once more, too. */
+static const struct held {
+    const char *what;
+    uint32_t holds[2], lates[2];
+    uint64_t rounds;
+    uint32_t periods[2];
+} HELD_CASES[] = {
+    {"version 2, no hold, no late", {0, 0}, {0, 0}, 4, {2, 4}},
+    {"version 2, radio's hold 1", {0, 1}, {0, 0}, 5, {2, 6}},
+    {"version 2, gauge's hold 2", {2, 0}, {0, 0}, 3, {3, 3}},
+    {"version 2, gauge's late 3", {0, 0}, {3, 0}, 4, {4, 4}},
+    {"version 2, gauge's late 5", {0, 0}, {5, 0}, 3, {6, 4}},
+    {"version 2, radio's late 1", {0, 0}, {0, 1}, 4, {2, 5}},
+    {"version 2, radio's hold 3", {0, 3}, {0, 0}, 5, {3, 8}},
+    {"version 2, a late that leaves the periods", {0, 3}, {1, 0}, 4, {3, 8}},
+};
+
 static void test_held_answers(void)
 {
-    uint8_t file[HELD_LENGTH], wanted[DESK_BLOCK_LENGTH];
+    call("version 2", HELD, sizeof HELD, DESK_BLOCK_LENGTH, 3, DESK_ANSWERED, HELD_ANSWER);
+    gives("version 2, budget 2", HELD, sizeof HELD, 2, DESK_BUDGET, 0, 2, 9, 2);
+    for (size_t k = 0; k < sizeof HELD_CASES / sizeof HELD_CASES[0]; k++) {
+        const struct held *held = &HELD_CASES[k];
+        uint8_t file[HELD_LENGTH], wanted[DESK_BLOCK_LENGTH] = {0};
 
-    call("version 2", HELD, sizeof HELD, DESK_BLOCK_LENGTH, 5, DESK_ANSWERED, HELD_ANSWER);
-    gives("version 2, budget 4", HELD, sizeof HELD, 4, DESK_BUDGET, 0, 4, 8, 2);
-    memcpy(file, HELD, sizeof file);
-    put(file + HELD_ROWS + LATE, 1000000, 4);
-    call("version 2, greatest late", file, sizeof file, DESK_BLOCK_LENGTH, 5, DESK_ANSWERED, HELD_ANSWER);
-    put(file + HELD_ROWS + 28 + HOLD, 0, 4);
-    call("version 2 without a hold", file, sizeof file, DESK_BLOCK_LENGTH, 4, DESK_ANSWERED, P_ANSWER);
-
-    /* Gauge's hold makes its own period longer; radio does not see it. */
-    put(file + HELD_ROWS + HOLD, 2, 4);
-    memcpy(wanted, P_ANSWER, sizeof wanted);
-    put(wanted + DESK_AT_ROUNDS, 3, 8);
-    put(wanted + DESK_AT_PERIODS, 3, 4);
-    put(wanted + DESK_AT_PERIODS + 4, 3, 4);
-    call("version 2, gauge's hold 2", file, sizeof file, DESK_BLOCK_LENGTH, 3, DESK_ANSWERED, wanted);
+        memcpy(file, HELD, sizeof file);
+        for (int i = 0; i < 2; i++) {
+            put(file + HELD_ROWS + 28 * i + HOLD, held->holds[i], 4);
+            put(file + HELD_ROWS + 28 * i + LATE, held->lates[i], 4);
+            put(wanted + DESK_AT_PERIODS + 4 * i, held->periods[i], 4);
+        }
+        put(wanted + DESK_AT_COST, held->periods[0] + held->periods[1], 8);
+        put(wanted + DESK_AT_ROUNDS, held->rounds, 8);
+        put(wanted + DESK_AT_N, 2, 4);
+        call(held->what, file, sizeof file, DESK_BLOCK_LENGTH, held->rounds, DESK_ANSWERED, wanted);
+    }
 }
 
 static void test_held_refusals(void)
@@ -276,6 +294,12 @@ static void test_held_refusals(void)
     held_changed("work and hold at high", HELD_ROWS + 28 + HOLD, 6, 4, DESK_NONE, 2, 2);
     held_changed("work and hold one above the cap", HELD_ROWS + 40, 2, 4, DESK_LONE, 2, 2);
     held_changed("work and hold at the cap", HELD_ROWS + 40, 3, 4, DESK_NONE, 2, 2);
+    held_changed("greatest late", HELD_ROWS + LATE, 1000000, 4, DESK_LONE, 1, 2);
+    held_changed("work and late one above high", HELD_ROWS + LATE, 6, 4, DESK_LONE, 1, 2);
+    held_changed("work, hold and late one above high", HELD_ROWS + 28 + LATE, 6, 4, DESK_LONE, 2, 2);
+    held_changed("work, hold and late at high", HELD_ROWS + 28 + LATE, 5, 4, DESK_NONE, 2, 2);
+    held_changed("work and late one above the cap", HELD_ROWS + 12, 3, 4, DESK_LONE, 1, 2);
+    held_changed("radio late by gauge's late", HELD_ROWS + 40, 4, 4, DESK_NONE, 2, 2);
 }
 
 static void test_block_lengths(void)

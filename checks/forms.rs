@@ -14,9 +14,9 @@ mod program;
 
 use model::{Task, TICK_MAX, WEIGHT_MAX};
 use plans::{
-    blocked_plan, damaged_file, dearest_plan, encode, extreme_plan, filled, held, infeasible_plan, latest_plan,
-    layout, layouts, limit_files, loaded_plan, name_all, named, random_plan, small_plan, sound_file, tight,
-    version_traps, Layout, Random, FILE_MAX,
+    damaged_file, dearest_plan, delayed, encode, extreme_plan, filled, infeasible_plan, infeasible_plan_2,
+    latest_plan, layout, layouts, limit_files, loaded_plan, name_all, named, random_plan, small_plan, sound_file,
+    tight, version_traps, Layout, Random, FILE_MAX,
 };
 use program::{
     arguments, byte_by_byte, coverage, cut, cuts, hex, lengths, long_cuts, sample_files, Parts, Program, Run,
@@ -469,10 +469,10 @@ fn version_2<'a>(program: &'a Program, seed: u64, random: &mut Random) -> Compar
         comparison.file(file);
     }
     sound_files(&mut comparison, random, 1, |_| latest_plan());
-    sound_files(&mut comparison, random, 50, held(small_plan));
-    sound_files(&mut comparison, random, 50, held(extreme_plan));
-    sound_files(&mut comparison, random, 50, blocked_plan);
-    sound_files(&mut comparison, random, 50, held(random_plan));
+    sound_files(&mut comparison, random, 50, delayed(small_plan));
+    sound_files(&mut comparison, random, 50, delayed(extreme_plan));
+    sound_files(&mut comparison, random, 50, infeasible_plan_2);
+    sound_files(&mut comparison, random, 50, delayed(random_plan));
     chosen_layouts(&mut comparison, random);
     single_fields(&mut comparison, random);
     version_pairs(&mut comparison, random, 200);

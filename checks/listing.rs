@@ -11,9 +11,9 @@ mod program;
 
 use model::{Task, TICK_MAX, WEIGHT_MAX};
 use plans::{
-    blocked_plan, damaged_file, dearest_plan, encode, extreme_plan, filled, held, infeasible_plan, latest_plan,
-    limit_files, loaded_plan, named, random_plan, small_plan, sound_file, tight, version_traps, Layout, Random,
-    FILE_MAX,
+    damaged_file, dearest_plan, delayed, encode, extreme_plan, filled, infeasible_plan, infeasible_plan_2,
+    latest_plan, limit_files, loaded_plan, named, random_plan, small_plan, sound_file, tight, version_traps, Layout,
+    Random, FILE_MAX,
 };
 use program::{
     arguments, byte_by_byte, coverage, cut, cuts, hex, lengths, long_cuts, sample_files, Parts, Program, Run,
@@ -147,8 +147,11 @@ fn example() {
     tasks[1].name[..5].copy_from_slice(b"radio");
     assert_eq!(model::listing(&encode(&tasks, &tight(1, 2))), "cost 6 rounds 4\ngauge 2 1\nradio 4 4\n");
     assert_eq!(model::listing(&encode(&tasks, &tight(2, 2))), "cost 6 rounds 4\ngauge 2 1\nradio 4 4\n");
-    let tasks = filled(tasks, &[(0, 9), (1, 0)]);
+    let tasks = filled(tasks, &[(0, 0), (1, 0)]);
     assert_eq!(model::listing(&encode(&tasks, &tight(2, 2))), "cost 8 rounds 5\ngauge 2 1\nradio 6 6\n");
+    // The gauge's time has its jitter in it.
+    let tasks = filled(tasks, &[(0, 3), (1, 0)]);
+    assert_eq!(model::listing(&encode(&tasks, &tight(2, 2))), "cost 9 rounds 3\ngauge 4 4\nradio 5 5\n");
 }
 
 /// The tasks with names of sixteen letters.
@@ -178,14 +181,14 @@ fn chosen_plans(comparison: &mut Comparison, random: &mut Random) {
     comparison.file(&sound_file(random, 1, &overfull));
 }
 
-/// The same in version 2, with blocking.
+/// The same in version 2, with blocking and jitter.
 fn chosen_plans_2(comparison: &mut Comparison, random: &mut Random) {
     let latest = with_long_names(latest_plan());
     comparison.file(&encode(&latest, &tight(2, 16)));
     comparison.file(&encode(&latest, &Layout { version: 2, rows: FILE_MAX - 448, names: 16, total: FILE_MAX }));
-    comparison.file(&encode(&filled(first_weighed(5), &[(30, 0), (20, 0)]), &tight(2, 5)));
+    comparison.file(&encode(&filled(first_weighed(5), &[(30, 7), (20, 3)]), &tight(2, 5)));
     let mut overfull = loaded_plan(random, 16, 70, true);
-    overfull.iter_mut().take(8).for_each(|task| task.blocking = 3);
+    overfull.iter_mut().take(8).for_each(|task| (task.blocking, task.jitter) = (3, 2));
     comparison.file(&sound_file(random, 2, &overfull));
 }
 
@@ -229,11 +232,11 @@ fn version_2<'a>(program: &'a Program, seed: u64, random: &mut Random) -> Compar
         comparison.file(file);
     }
     sound_files(&mut comparison, random, 50, small_plan);
-    sound_files(&mut comparison, random, 450, held(small_plan));
-    sound_files(&mut comparison, random, 150, held(fixed_plan));
-    sound_files(&mut comparison, random, 100, blocked_plan);
-    sound_files(&mut comparison, random, 50, held(extreme_plan));
-    sound_files(&mut comparison, random, 150, held(random_plan));
+    sound_files(&mut comparison, random, 450, delayed(small_plan));
+    sound_files(&mut comparison, random, 150, delayed(fixed_plan));
+    sound_files(&mut comparison, random, 100, infeasible_plan_2);
+    sound_files(&mut comparison, random, 50, delayed(extreme_plan));
+    sound_files(&mut comparison, random, 150, delayed(random_plan));
     damaged_files(&mut comparison, random, 700);
     comparison
 }

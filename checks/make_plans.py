@@ -61,9 +61,10 @@ QUAY_BOX = [
 
 # A box with the serial driver, in version 2. The logger keeps those above it waiting
 # for up to 15 ticks while it sends a record, the battery check the logger for 3; the
-# sonde may come up 3 ticks late. The answer costs 75,260 after 380 rounds: gauge 36,
-# pressure 50, radio 250, sonde 128, logger 250, battery 1,000. Without the holds it
-# would cost 73,310 after 812: gauge 32, sonde 117, logger 349, the others the same.
+# sonde may come up 3 ticks late. The answer costs 75,620 after 336 rounds: gauge 36,
+# pressure 50, radio 250, sonde 131, logger 250, battery 1,000. Without that late it
+# would cost 75,260 after 380, with sonde at 128; without the holds, too, 73,310 after
+# 812: gauge 32, sonde 117, logger 349, the others the same.
 SERIAL_BOX = [
     ("gauge", 12, 30, 90, 1_000_000, 900, 15, 0),
     ("pressure", 9, 40, 110, 1_000_000, 400, 15, 0),

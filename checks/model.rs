@@ -186,23 +186,24 @@ fn deadline(task: &Task, period: u64) -> u64 {
     period.min(task.deadline_cap)
 }
 
-/// What task i asks for by time t, with the work of those above it. Their own blocking
-/// is no work of theirs.
+/// What task i asks for by time t, with the work of those above it: each comes up as
+/// often as it would without its jitter in a time longer by that. Their own blocking is
+/// no work of theirs, and the jitter of task i is no work of its own.
 fn demand(tasks: &[Task], periods: &[u64], i: usize, t: u64) -> u64 {
-    let above: u64 = (0..i).map(|j| tasks[j].wcet * t.div_ceil(periods[j])).sum();
+    let above: u64 = (0..i).map(|j| tasks[j].wcet * (t + tasks[j].jitter).div_ceil(periods[j])).sum();
     tasks[i].own_demand() + above
 }
 
-/// The least t from 1 to the deadline that covers its own demand. Demand never
-/// falls as t grows, so no t between one and its demand covers its own: the
-/// climb passes none by.
+/// The least t from 1 on that covers its own demand, plus the jitter of task i; none
+/// past the deadline. Demand never falls as t grows, so no t between one and its demand
+/// covers its own: the climb passes none by.
 pub fn response_time(tasks: &[Task], periods: &[u64], i: usize) -> Option<u64> {
     let deadline = deadline(&tasks[i], periods[i]);
     let mut t = tasks[i].own_demand();
-    while t <= deadline {
+    while t + tasks[i].jitter <= deadline {
         let needed = demand(tasks, periods, i, t);
         if needed <= t {
-            return Some(t);
+            return Some(t + tasks[i].jitter);
         }
         t = needed;
     }
@@ -211,7 +212,9 @@ pub fn response_time(tasks: &[Task], periods: &[u64], i: usize) -> Option<u64> {
 
 /// The same by its definition: every t in turn.
 pub fn response_time_by_scan(tasks: &[Task], periods: &[u64], i: usize) -> Option<u64> {
-    (1..=deadline(&tasks[i], periods[i])).find(|&t| demand(tasks, periods, i, t) <= t)
+    let deadline = deadline(&tasks[i], periods[i]);
+    let least = (1..=deadline).find(|&t| demand(tasks, periods, i, t) <= t)?;
+    Some(least + tasks[i].jitter).filter(|&time| time <= deadline)
 }
 
 fn first_late(tasks: &[Task], periods: &[u64]) -> Option<usize> {
@@ -306,7 +309,7 @@ fn stop(outcome: Outcome, incumbent: Node) -> Outcomes {
 /// CHEAPEST and BEST with a work space of `space` numbers, at least n.
 pub fn search(tasks: &[Task], budget: u64, space: u64) -> Outcomes {
     let mut outcome = Outcome { n: tasks.len() as u32, ..Outcome::default() };
-    let alone = |task: &Task| task.own_demand() > deadline(task, task.period_max);
+    let alone = |task: &Task| task.own_demand() + task.jitter > deadline(task, task.period_max);
     if let Some(i) = tasks.iter().position(alone) {
         return shared(Outcome { number: 31, place: i as u32 + 1, ..outcome });
     }

@@ -271,9 +271,36 @@ pub fn infeasible_plan(random: &mut Random) -> Vec<Task> {
 
 // Blocking and jitter.
 
-/// The most blocking with which a task alone can meet its deadline.
+/// The most blocking or jitter that a task can take on and, alone, meet its deadline.
 fn room(task: &Task) -> u64 {
-    task.period_max.min(task.deadline_cap).saturating_sub(task.wcet)
+    task.period_max.min(task.deadline_cap).saturating_sub(task.wcet + task.blocking + task.jitter)
+}
+
+/// Blocking or jitter of a task.
+type Field = fn(&mut Task) -> &mut u64;
+
+const BLOCKING: Field = |task| &mut task.blocking;
+const JITTER: Field = |task| &mut task.jitter;
+
+/// One task, rather a high one, by far more than others ask for.
+fn fill_one(random: &mut Random, tasks: &mut [Task], field: Field) {
+    let i = random.index(tasks.len()).min(random.index(tasks.len()));
+    let most = room(&tasks[i]);
+    *field(&mut tasks[i]) = random.within(most / 4, most);
+}
+
+fn fill_all(random: &mut Random, tasks: &mut [Task], field: Field) {
+    let share = random.of(&[2, 4, 16]);
+    for task in tasks {
+        *field(task) = random.within(0, room(task) / share);
+    }
+}
+
+/// One task up to its deadline, or past it by one tick or by all there are.
+fn fill_to_deadline(random: &mut Random, tasks: &mut [Task], field: Field) {
+    let i = random.index(tasks.len());
+    let most = room(&tasks[i]);
+    *field(&mut tasks[i]) = random.of(&[most, most, most + 1, TICK_MAX]);
 }
 
 /// At most the longest work below, as resources that tasks share would have it.
@@ -285,69 +312,75 @@ fn block_by_work(random: &mut Random, tasks: &mut [Task]) {
     }
 }
 
-/// One task, rather a high one, by far more than others ask for.
-fn block_one(random: &mut Random, tasks: &mut [Task]) {
-    let i = random.index(tasks.len()).min(random.index(tasks.len()));
-    let most = room(&tasks[i]);
-    tasks[i].blocking = random.within(most / 4, most);
-}
-
-fn block_all(random: &mut Random, tasks: &mut [Task]) {
-    let share = random.of(&[2, 4, 16]);
-    for task in tasks {
-        task.blocking = random.within(0, room(task) / share);
+fn block_some(random: &mut Random, tasks: &mut [Task]) {
+    match random.index(4) {
+        0 => block_by_work(random, tasks),
+        1 => fill_one(random, tasks, BLOCKING),
+        2 => fill_all(random, tasks, BLOCKING),
+        _ => fill_to_deadline(random, tasks, BLOCKING),
     }
 }
 
-/// One task up to its deadline, or one tick past it.
-fn block_to_deadline(random: &mut Random, tasks: &mut [Task]) {
-    let i = random.index(tasks.len());
-    tasks[i].blocking = room(&tasks[i]) + random.within(0, 1);
-}
-
-/// Any jitter, of as many tasks as may be.
-pub fn jitter_some(random: &mut Random, tasks: &mut [Task]) {
+/// A few ticks each, or none.
+fn jitter_few(random: &mut Random, tasks: &mut [Task]) {
     for task in tasks {
-        task.jitter = random.of(&[0, 1, 2, 40, TICK_MAX - 1, TICK_MAX]);
+        task.jitter = random.of(&[0, 0, 1, 2, 3]);
     }
 }
 
-/// Plans of a kind with blocking of all kinds, and with jitter or without.
-pub fn held(plan: impl Fn(&mut Random) -> Vec<Task>) -> impl Fn(&mut Random) -> Vec<Task> {
+fn jitter_some(random: &mut Random, tasks: &mut [Task]) {
+    match random.index(4) {
+        0 => jitter_few(random, tasks),
+        1 => fill_one(random, tasks, JITTER),
+        2 => fill_all(random, tasks, JITTER),
+        _ => fill_to_deadline(random, tasks, JITTER),
+    }
+}
+
+/// Plans of a kind with blocking of all kinds, with jitter of all kinds, and with both.
+pub fn delayed(plan: impl Fn(&mut Random) -> Vec<Task>) -> impl Fn(&mut Random) -> Vec<Task> {
     move |random| {
         let mut tasks = plan(random);
-        let block = random.of(&[block_by_work, block_one, block_all, block_to_deadline]);
-        block(random, &mut tasks);
-        if random.chance(2) {
+        let kind = random.index(3);
+        if kind != 0 {
+            block_some(random, &mut tasks);
+        }
+        if kind != 1 {
             jitter_some(random, &mut tasks);
         }
         tasks
     }
 }
 
-/// Sixteen tasks that all respond at the last tick there is, most of it blocking.
+/// Sixteen tasks that all respond at the last tick there is, after blocking and jitter of
+/// about half of that each.
 pub fn latest_plan() -> Vec<Task> {
     let mut tasks = named(&[(1, TICK_MAX, TICK_MAX, TICK_MAX, WEIGHT_MAX); 16]);
     for (i, task) in tasks.iter_mut().enumerate() {
-        task.blocking = TICK_MAX - 1 - i as u64;
-        task.jitter = TICK_MAX;
+        task.jitter = TICK_MAX / 2;
+        task.blocking = TICK_MAX / 2 - 1 - i as u64;
     }
     tasks
 }
 
-/// Sixteen tasks that meet their deadlines but for the k-th: by its blocking its own
-/// demand is one tick past its deadline (31), or just at it, which leaves no time for
-/// those above (32) where there are any.
-pub fn blocked_plan(random: &mut Random) -> Vec<Task> {
+/// Sixteen tasks that meet their deadlines but for the k-th: by its blocking and jitter it
+/// responds, alone, one tick past its deadline (31), or just at it, which leaves no time
+/// for those above (32) where there are any. Its jitter may make some below late, too.
+pub fn infeasible_plan_2(random: &mut Random) -> Vec<Task> {
     let mut tasks: Vec<Task> = (0..16).map(|_| task(2, random.within(1, 40), 40, 1_000, 1)).collect();
+    let blocking_most = random.within(0, 8);
     for task in &mut tasks {
-        task.blocking = random.within(0, 8);
+        task.blocking = random.within(0, blocking_most);
+        task.jitter = random.within(0, 8 - blocking_most);
     }
     let broken = &mut tasks[random.index(16)];
     if random.chance(2) {
         broken.deadline_cap = random.within(2, 40);
     }
-    broken.blocking = room(broken) + random.within(0, 1);
+    (broken.blocking, broken.jitter) = (0, 0);
+    let delay = room(broken) + random.within(0, 1);
+    broken.blocking = random.within(0, delay);
+    broken.jitter = delay - broken.blocking;
     tasks
 }
 
@@ -443,7 +476,7 @@ pub fn damaged_file(random: &mut Random, version: u64) -> Vec<u8> {
         .collect();
     if version == 2 {
         for task in &mut tasks {
-            (task.blocking, task.jitter) = (random.within(0, 3), random.of(&[0, 1, TICK_MAX]));
+            (task.blocking, task.jitter) = (random.within(0, 3), random.of(&[0, 1, 20]));
         }
     }
     name_all(random, &mut tasks);

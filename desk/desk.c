@@ -46,7 +46,7 @@ static const struct meaning MEANINGS[] = {
     {DESK_NAME, "a name is not 1 to 16 of A-Z, a-z, 0-9 and hyphen, then zeros", "job"},
     {DESK_SAME_NAME, "a name is equal to an earlier one", "job"},
     {DESK_BLOCK_SIZE, "the block is not 100 bytes long", NULL},
-    {DESK_LONE, "work and hold are together above the job's own high bound or cap", "job"},
+    {DESK_LONE, "work, hold and late are together above the job's own high bound or cap", "job"},
     {DESK_NONE, "late even with every period at its high bound", "job"},
     {DESK_BUDGET, "the budget of rounds is spent", NULL},
     {DESK_SPACE, "the work space is full", NULL},

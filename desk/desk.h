@@ -42,7 +42,7 @@ enum desk_number {
     DESK_BLOCK_SIZE = 25,   /* block_len is not 100; tested before the file, nothing written */
 
     /* No periods within the bounds are schedulable. */
-    DESK_LONE = 31,         /* work and hold above the greatest period or the cap; place: first such task */
+    DESK_LONE = 31,         /* work, hold and late above the greatest period or the cap; place: first such task */
     DESK_NONE = 32,         /* late even at all greatest periods; place: first late task */
 
     /* Stopped: no schedulable periods cost less than the bound. Place 0. */
