@@ -18,7 +18,7 @@ own_demand task = task.wcet + task.blocking
 abbrev pub releases : Task → ℕ → ℕ → ℕ
 releases task period t = ceiling (t + task.jitter) period
 
--- "that job's work times" these
+-- "that job's work times" its releases
 abbrev pub interference : Task → ℕ → ℕ → ℕ
 interference task period t = task.wcet * releases task period t
 
