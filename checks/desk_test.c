@@ -234,7 +234,7 @@ static void test_refusals(void)
 }
 
 /* HELD with other holds and lates, each of gauge and of radio, and its answer. Gauge's
- * hold lengthens its own period only; its late may make radio wait once more, too. */
+ * hold lengthens its own period only; its late may cost radio one more run of gauge, too. */
 static const struct held {
     const char *what;
     uint32_t holds[2], lates[2];

@@ -296,7 +296,7 @@ fn fill_all(random: &mut Random, tasks: &mut [Task], field: Field) {
     }
 }
 
-/// One task up to its deadline, or past it by one tick or by all there are.
+/// One task up to its deadline, or past it by one tick, or the most there is.
 fn fill_to_deadline(random: &mut Random, tasks: &mut [Task], field: Field) {
     let i = random.index(tasks.len());
     let most = room(&tasks[i]);

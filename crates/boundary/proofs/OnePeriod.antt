@@ -24,7 +24,7 @@ use Rattle.response.proofs.Exactness.{busy-exact}
 use Rattle.response.proofs.Dominance.{set-mono}
 use Rattle.response.proofs.Sustainable.{busy-same, covers_up, meets-covers, covers-meets}
 
--- the least period at which a task is released as often before time t as at period p
+-- the least period at which a task is released as often within a window t as at period p
 abbrev pub alike : ℕ → ℕ → ℕ
 alike t p = ceiling t (ceiling t p)
 

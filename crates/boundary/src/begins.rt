@@ -8,7 +8,7 @@ use plan::{Plan, Task};
 use response::own_demand;
 
 // Where the climbs of a task may begin, the busy period of a task above it being known: its own is no shorter than
-// that, less that task's blocking, which it does not see, and its own demand more. Where the blocking exceeds its own
+// that, less that task's blocking, which it does not see, plus its own demand. Where the blocking exceeds its own
 // demand only the latter is known.
 pub fn begin_below(task: &Task, above: &Task, busy: u32) -> u32
     requires { Valid task.now × (busy ≤ max_response) }

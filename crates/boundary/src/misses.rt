@@ -33,8 +33,9 @@ fn probe(low: u32, high: u32, turn: u32) -> u32
 }
 
 // The last period of task i, from low to most, at which task k misses its deadline; low where there is none above.
-// Where task k meets its deadline, it meets it down to the least period at which task i is released as often within its
-// busy period. At every shorter period task i runs once more by then: the next climb begins so much later.
+// Where task k meets its deadline, it meets it down to the least period at which task i is released as often within the
+// window of its busy period and task i's jitter. At every shorter period task i runs once more by then: the next climb
+// begins so much later.
 // Plan, task and greatest period stay parameters: as a struct's fields every clause would name them by `self.now`; and
 // the periods are lent mutably, which an `Assignment`'s are not.
 fn last_miss(

@@ -16,7 +16,7 @@ use response::Assignment;
 fn raise(plan: &Plan, u: &mut [u32], i: usize, most: u32, begin: u32) -> Option<u32>
     requires { Raises (plan_tasks plan.now) u.old i most begin }
     ensures is { Raised (plan_tasks plan.now) u.old i most u.new }
-    ensures busy { result ≡ some_time (busy_in_time (plan_tasks plan.now) u.new i) }
+    ensures responds { result ≡ some_time (busy_in_time (plan_tasks plan.now) u.new i) }
 {
     let least = u[i];
     u[i] = most;
@@ -27,7 +27,7 @@ fn raise(plan: &Plan, u: &mut [u32], i: usize, most: u32, begin: u32) -> Option<
     (own + plan.tasks[i].jitter <= miss.last).then_some(own)
 }
 
-// Each task in turn, its climb by the busy period of the task above. Below a task that misses its deadline at
+// Each task in turn, its climb begun by the busy period of the task above. Below a task that misses its deadline at
 // periods that are final every period goes to its maximum.
 fn raise_all(plan: &Plan, u: &mut [u32])
     requires { Unschedulable (plan_tasks plan.now) u.old }

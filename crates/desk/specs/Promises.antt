@@ -1,8 +1,8 @@
 -- What DESK promises, of any bytes, block and budget.
 use Rattle.std.specs.Prelude.{◌≡◌, true, cond, List, ℕ, eqb, length, take}
-use Rattle.plan.specs.Files.{accepted, tasks_of}
+use Rattle.plan.specs.Files.{file_fault, accepted, tasks_of}
 use Rattle.optimizer.specs.Claims.{Settles}
-use Rattle.optimizer.specs.Promises.{Outcome, outcome, room_of}
+use Rattle.optimizer.specs.Promises.{Outcome, outcome, exact_outcome_of, AtExactRelease, room_of}
 use Rattle.desk.specs.declared.block.Carried.{Carried}
 use Rattle.desk.specs.Block.{block_size, encoded, carried, carrying}
 
@@ -27,3 +27,6 @@ pub record Calls (s : List ℕ) (budget : ℕ) (b b' : List ℕ) (r : ℕ) : Typ
   -- "Demand 3 holds of what the block carries, too."
   pub settles : length b ≡ block_size → accepted s ≡ true → let c = carried b' in
       Settles (tasks_of s) budget (room_of (tasks_of s) desk_work) c.answer (take c.tasks c.periods)
+  -- "Exact release in 01 is now the case of late 0.": the outcome that the block carries is then that by its time test
+  pub exact_release : let ts = tasks_of s in
+      AtExactRelease ts (desk_outcome s budget) (exact_outcome_of (file_fault s) ts budget (length ts) desk_work)

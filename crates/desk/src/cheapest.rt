@@ -35,6 +35,7 @@ impl Operation for Cheapest {
 
 // DESK: the cheapest periods of a file's tasks, or a refusal or a stop, into the caller's block; returns the block's
 // number, or 25 for a block that is not 100 bytes, which is left as it was.
+#[tactic(auto, using(crate::proofs::ExactRelease::exact_desk))]
 pub fn desk_call(file: &[u8], block: &mut [u8], budget: u64) -> u32
     ensures { Calls file.now budget block.old block.new result }
 {

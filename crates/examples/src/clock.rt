@@ -1,6 +1,7 @@
 use super::small::{Assignment, Delays, PLACES, Place, SmallPlan};
 use plan::Task;
 use response::Times;
+use std::cmp::Ordering;
 use std::fmt;
 
 // The slack of a task that is not done by the longest response time.
@@ -9,9 +10,9 @@ const NO_SLACK: i32 = -2_000_000;
 // The longest response time.
 pub(crate) const LONGEST: u32 = 2_000_000;
 
-// A task of a drawn plan responds by this tick, or never: its own demand, one job of each of the two tasks above and what
-// these demand in 3 ticks of jitter are at most 18 ticks; these two, with periods up to 11, leave at least 1/110 of the
-// processor, if any; and its own jitter is at most 3.
+// A task of a drawn plan responds by this tick, or never: its own demand, one job of each of the two tasks above and
+// what these demand in 3 ticks of jitter are at most 18 ticks; these two, with periods up to 11, leave at least 1/110
+// of the processor, if any; and its own jitter is at most 3.
 pub(crate) const SOON: u32 = 18 * 110 + 3;
 
 // How many jobs of a task are released at tick `now`: its moments come every period, one of them a delay before tick 0.
@@ -27,7 +28,7 @@ fn released(period: u32, delay: u32, now: u32) -> u32 {
     }
 }
 
-// Tasks at given periods, each released at tick 0 as much later than at its moment as its delay says.
+// Tasks at given periods, each released at tick 0 as much later than its moment as its delay says.
 #[derive(Clone, Copy)]
 struct Clock<'a> {
     plan: &'a SmallPlan,
@@ -36,7 +37,7 @@ struct Clock<'a> {
 }
 
 impl<'a> Clock<'a> {
-    // The critical moment: every task is as late as its jitter lets it.
+    // The critical instant: every task is as late as its jitter lets it.
     fn critical(plan: &'a SmallPlan, periods: &'a Assignment) -> Clock<'a> {
         Clock {
             plan,
@@ -102,7 +103,7 @@ pub(crate) fn first_missed(plan: &SmallPlan, periods: &Assignment) -> Option<u32
 }
 
 // What TIMES was compared at: period assignments, missed deadlines, tasks that are never done, and answers that differ;
-// and how responses at other delays are to those at the critical moment.
+// and how responses at other delays compare with those that its slacks tell.
 #[derive(Clone, Copy, Default)]
 pub(crate) struct Counts {
     assignments: u64,
@@ -115,17 +116,21 @@ pub(crate) struct Counts {
 }
 
 impl Counts {
-    // Compares responses up to a longest one, where there are any at the critical moment.
-    fn compare_delayed(&mut self, critical: &Clock, delayed: &Clock, longest: u32) {
-        for place in critical.plan.places() {
-            if let Some(worst) = critical.response(*place, longest) {
-                let counter = match delayed.response(*place, longest) {
-                    Some(response) if response < worst => &mut self.earlier,
-                    Some(response) if response == worst => &mut self.as_late,
-                    _ => &mut self.later,
-                };
-                *counter = counter.saturating_add(1);
+    // Compares the responses by a clock, up to a longest one, with those that slacks tell, where there are any.
+    fn compare_delayed(&mut self, clock: &Clock, slacks: &[i32; 3], longest: u32) {
+        for place in clock.plan.places() {
+            let told = slacks[place.index()];
+            if told == NO_SLACK {
+                continue;
             }
+            let response = clock.response(*place, longest);
+            let by_clock = slack(clock.plan, clock.periods, *place, response);
+            let counter = match by_clock.cmp(&told) {
+                Ordering::Greater => &mut self.earlier,
+                Ordering::Equal => &mut self.as_late,
+                Ordering::Less => &mut self.later,
+            };
+            *counter = counter.saturating_add(1);
         }
     }
 
@@ -143,13 +148,13 @@ impl Counts {
             delays: *delays,
             ..critical
         };
-        self.compare_delayed(&critical, &delayed, longest);
         let mut slacks = [7; 3];
         let answer = response::response_times(
             file,
             plan.periods(periods),
             &mut slacks[..plan.count],
         );
+        self.compare_delayed(&delayed, &slacks, longest);
         let mut missed = 0u32;
         let mut is_same = true;
         for place in plan.places() {

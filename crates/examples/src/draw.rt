@@ -64,8 +64,8 @@ impl Sequence {
         SmallPlan { tasks, count }
     }
 
-    // A plan of three tasks: the last has up to 1.3 million ticks of its own to do, and up to a million of jitter; those
-    // above mostly leave it enough of the processor to be done.
+    // A plan of three tasks: the last has up to 1.3 million ticks of its own to do, and up to a million of jitter;
+    // those above mostly leave it enough of the processor to be done.
     pub(crate) fn draw_late_plan(&self) -> SmallPlan {
         let last = Task {
             wcet: self.draw(10, 1..=32767).saturating_mul(20),
@@ -104,14 +104,14 @@ impl Sequence {
         drawn
     }
 
-    // How late each task is, up to its jitter, in run k of four, by numbers 0 to 11.
+    // The delays in run k of four, by numbers 0 to 11: none, one, two or three thirds of each task's jitter.
     pub(crate) fn draw_delays(&self, run: usize, plan: &SmallPlan) -> Delays
         requires { run < 4 }
     {
         let mut delays = Delays::default();
         for place in plan.places() {
-            let jitter = plan.task(*place).jitter;
-            delays[place.index()] = self.draw(3 * run + place.index(), 0..=jitter);
+            let thirds = self.draw(3 * run + place.index(), 0..=3);
+            delays[place.index()] = plan.task(*place).jitter.wrapping_mul(thirds) / 3;
         }
         delays
     }

@@ -8,7 +8,7 @@ use optimizer::{CallError, Conclusion, Stop};
 use plan::Task;
 use std::fmt;
 
-// Whether a task's own demand and its jitter exceed its longest period or its cap.
+// Whether a task's own demand and jitter together exceed its longest period or its cap.
 fn is_infeasible_alone(task: &Task) -> bool {
     task.period_max.min(task.deadline_cap) < own_demand(task).wrapping_add(task.jitter)
 }

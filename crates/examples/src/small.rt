@@ -51,7 +51,7 @@ impl Assignment {
     }
 }
 
-// How much later than at its moment each of three tasks is released.
+// How much later than its moment each of three tasks is released.
 pub(crate) type Delays = [u32; 3];
 
 // One, two or three tasks: an array with a count, so that sums and products go over three places. A task that is not

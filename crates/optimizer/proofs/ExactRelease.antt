@@ -40,11 +40,11 @@ module _ (ts : List Task) (n : WithoutJitter ts) where
       | inr z ↦ rw (or-here (call_fault f ts space work) (exact_infeasible_fault ts) z, ne_eqb _ 0 z) refl
     ]
 
-    exact-outcome : (budget : ℕ) → outcome_of f ts budget space work ≡ exact_outcome_of f ts budget space work
+    pub exact-outcome : (budget : ℕ) → outcome_of f ts budget space work ≡ exact_outcome_of f ts budget space work
     unfolding outcome_of exact_outcome_of
     exact-outcome budget = rw (exact-called, exact-test ts n) refl
 
-    best-outcome : (budget : ℕ) → best_outcome_of f ts budget space work ≡ exact_best_outcome_of f ts budget space work
+    pub best-outcome : (budget : ℕ) → best_outcome_of f ts budget space work ≡ exact_best_outcome_of f ts budget space work
     unfolding best_outcome_of exact_best_outcome_of
     best-outcome budget = rw (exact-called, exact-test ts n) refl
 

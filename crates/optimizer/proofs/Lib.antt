@@ -21,6 +21,6 @@ mod Taking  -- the least node taken off, and how its round goes
 mod Looping  -- the rounds over the work space
 mod Searching  -- the rounds with an incumbent
 mod Concluding  -- from the rules and the search to the outcome
-mod ExactRelease  -- plans without jitter
+pub mod ExactRelease  -- plans without jitter
 mod Promised  -- from the outcome to what a call promises
 pub mod Examples  -- the published examples

@@ -8,7 +8,8 @@ use Rattle.response.specs.Assignments.{cost, less, within_bounds, assignment_cou
 use Rattle.response.specs.Claims.{Covers}
 use Rattle.optimizer.specs.declared.conclusion.Answer.{Answer}
 
--- an on-time timetable within the bounds: for every task some t covers its demand, with its jitter up to its deadline
+-- an on-time timetable within the bounds: for every task some t covers its demand, and t plus its jitter is at most its
+-- deadline
 pub record Feasible (ts : List Task) (xs : List ℕ) : Type 0 where
   pub bounded : within_bounds ts xs ≡ true
   pub met : (i : ℕ) → i < length ts → (t : ℕ) × Covers (deadline_at ts xs i) ts xs i t

@@ -96,7 +96,7 @@ pub record Answers (x : Outcome) (p o' w w' : List ℕ) (r : Answer) : Type 0 wh
   pub periods : o' ≡ p
   pub work : w' ≡ cleared x w
 
--- Without jitter: "plans without late keep their answers", those by the time test of exact release. 31 and 32 by it
+-- "plans without late keep their answers": those by the time test of exact release. First 31 and 32
 abbrev pub exact_alone_fault : List Task → ℕ → Fault
 exact_alone_fault ts i =
     let t = task_at ts i in fault_if (ltb (deadline t t.period_max) (own_demand t)) 31 (suc i)
@@ -117,6 +117,10 @@ unfoldable pub exact_outcome_of : Fault → List Task → ℕ → ℕ → ℕ �
 exact_outcome_of f ts budget space work =
     let e = search_from (rule ts (exact_schedulable ts)) budget (room_of ts work) 0 tt (start ts) in
     exact_called f ts space work (searched (weights ts) e)
+
+-- an outcome of tasks, and another that it is where none has jitter
+abbrev pub AtExactRelease : List Task → Outcome → Outcome → Type 0
+AtExactRelease ts x y = WithoutJitter ts → x ≡ y
 
 -- CHEAPEST, of a file's fault and tasks
 pub record Plans (f : Fault) (ts : List Task) (budget : ℕ) (o o' w w' : List ℕ) (r : Answer) : Type 0 where

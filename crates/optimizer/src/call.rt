@@ -14,7 +14,7 @@ use boundary::Node;
 use plan::{Plan, Task};
 use response::{Assignment, deadline, own_demand};
 
-// Whether a task's own demand and its jitter exceed its deadline at its longest period.
+// Whether a task's own demand and jitter together exceed its deadline at its longest period.
 fn infeasible_alone(task: &Task) -> bool
     requires { Valid task.now }
     ensures { result ≡ infeasible_alone task.now }

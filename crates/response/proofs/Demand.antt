@@ -14,15 +14,15 @@ use Rattle.response.specs.Analysis.{releases, own_demand, interference_above, de
 use Rattle.response.proofs.Ceiling.{ceiling-monotone, ceiling-antitone, ceiling-some}
 
 module _ (ts : List Task) where
-  -- how often task k is released before t
+  -- how often task k may be released before t
   abbrev pub releases_at : List ℕ → ℕ → ℕ → ℕ
   releases_at xs k t = releases (task_at ts k) (get_or xs k 0) t
 
   above-monotone : (xs : List ℕ) (i s t : ℕ) → s ≤ t → interference_above ts xs i s ≤ interference_above ts xs i t
   above-monotone xs zero s t h = omega arith
   above-monotone xs (suc j) s t h =
-      let late = (task_at ts j).jitter in
-      let more = ceiling-monotone (s + late) (t + late) (get_or xs j 0) (omega arith) in
+      let jitter = (task_at ts j).jitter in
+      let more = ceiling-monotone (s + jitter) (t + jitter) (get_or xs j 0) (omega arith) in
       omega (arith, above-monotone xs j s t h, mul-le-mul_left (task_at ts j).wcet more)
 
   pub demand-monotone : (xs : List ℕ) (i s t : ℕ) → s ≤ t → demand ts xs i s ≤ demand ts xs i t

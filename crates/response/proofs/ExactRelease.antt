@@ -11,9 +11,9 @@ use Rattle.plan.specs.Lists.{tabulate}
 use Rattle.plan.specs.Tasks.{no_task, task_at}
 use Rattle.plan.proofs.Tests.{bool, both, le-or-lt}
 use Rattle.response.specs.Analysis.{deadline_at, slack_of, interference_above, demand, busy_period, response_of, response_time}
-use Rattle.response.specs.Analysis.{schedulable, slack_list, first_missed}
-use Rattle.response.specs.ExactRelease.{WithoutJitter, exact_above, exact_demand, exact_response_time, exact_slack_list, exact_schedulable}
-use Rattle.response.proofs.Missed.{schedulable-first, first-schedulable}
+use Rattle.response.specs.Analysis.{first_meet, schedulable, slack_list}
+use Rattle.response.specs.ExactRelease.{WithoutJitter, exact_above, exact_demand, exact_response_time, exact_slack_list}
+use Rattle.response.specs.ExactRelease.{exact_first_meet, exact_schedulable}
 
 response-same : (task : Task) → task.jitter ≡ 0 → (r : ℕ) → response_of task r ≡ r
 response-same task e zero = refl
@@ -31,7 +31,7 @@ module _ (ts : List Task) (n : WithoutJitter ts) where
   unfolding demand
   exact-demand xs i = fun_ext (λ t. rw (exact-above xs i t) refl)
 
-  exact-response : (xs : List ℕ) (i : ℕ) → response_time ts xs i ≡ exact_response_time ts xs i
+  pub exact-response : (xs : List ℕ) (i : ℕ) → response_time ts xs i ≡ exact_response_time ts xs i
   unfolding busy_period exact_response_time
   exact-response xs i = response-same (task_at ts i) (no-jitter i) _ ∙ rw (no-jitter i, exact-demand xs i) refl
 
@@ -40,10 +40,10 @@ module _ (ts : List Task) (n : WithoutJitter ts) where
   exact-slacks xs =
       ap (λ s. tabulate s (length ts) 0) (fun_ext (λ i. ap (slack_of (deadline_at ts xs i)) (exact-response xs i)))
 
+  exact-first : (xs : List ℕ) (n : ℕ) → first_meet ts xs n ≡ exact_first_meet ts xs n
+  exact-first xs zero = refl
+  exact-first xs (suc n) = rw (exact-first xs n, exact-response xs n) refl
+
   pub exact-test : schedulable ts ≡ exact_schedulable ts
-  exact-test = fun_ext (λ xs.
-      let first = first_missed (exact_slack_list ts xs) in
-      elim (bool (schedulable ts xs)) [
-        | inl e ↦ e ∙ sym (eq-eqb first 0 (rw (exact-slacks xs) at (schedulable-first ts xs e)))
-        | inr e ↦ e ∙ sym (ne_eqb first 0 (λ z. both (first-schedulable ts xs (rw (← exact-slacks xs) at z)) e))
-      ])
+  unfolding schedulable exact_schedulable
+  exact-test = fun_ext (λ xs. exact-first xs (length ts))

@@ -103,9 +103,9 @@ module _ (limit : ℕ) (ts : List Task) (xs : List ℕ) (i : ℕ) where
 period-exact : (last : ℕ) (ts : List Task) (xs : List ℕ) (i : ℕ) → 1 ≤ own_demand (task_at ts i)
     → IsBusy (last + (task_at ts i).jitter) ts xs i (busy_period last ts xs i)
 period-exact last ts xs i w =
-    let late = (task_at ts i).jitter in
-    let same : last + late - late ≡ last = omega arith in
-    rw same at (busy-exact (last + late) ts xs i w)
+    let jitter = (task_at ts i).jitter in
+    let same : last + jitter - jitter ≡ last = omega arith in
+    rw same at (busy-exact (last + jitter) ts xs i w)
 
 -- a time that is not 0
 pub some-time : (t : ℕ) → 1 ≤ t → Some t ≡ some_time t

@@ -1,4 +1,4 @@
--- Response times as the code answers them: none, or the time.
+-- Times as the code answers them: none, or the time.
 use Rattle.std.proofs.Common.{◌≡◌, ℕ, zero, suc, leb, ◌≤◌, rules, is_some, Some, None}
 use Rattle.std.specs.Option.{IsSome}
 use Rattle.response.specs.Inner.{some_time}

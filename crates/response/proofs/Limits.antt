@@ -1,4 +1,5 @@
--- What the limits of the time test are for, and that a period set within them keeps them.
+-- What the limits of the time test are for, and that a period set within them keeps them; climbs within a limit, and the
+-- busy period that one finds.
 use mathlib.Core.Path.{◌≡◌, sym, ◌∙◌}
 use mathlib.Core.Logic.{inl, inr}
 use mathlib.Core.List.{List}
@@ -6,10 +7,10 @@ use Prim.Native.Nat.{ℕ, ◌+◌, ◌-◌, ◌≤◌, ◌<◌}
 use native.Mathlib.Omega.{arith}
 use lib.ListN.{length, set, length-set}
 use lib.Seq.{get_or-set_same, get_or-set_other, set_out}
+use Rattle.std.specs.Prelude.{Option, Some}
 use Rattle.plan.specs.declared.tasks.Task.{Task}
 use Rattle.plan.specs.Tasks.{max_ticks, task_at}
 use Rattle.plan.proofs.Tests.{le-or-lt, eq-or-ne}
-use Rattle.std.specs.Prelude.{Option, Some}
 use Rattle.response.specs.Analysis.{own_demand, busy_up_to, max_response}
 use Rattle.response.specs.Inner.{Limits, Begins, Climbs, some_time}
 use Rattle.response.proofs.Exactness.{own-some, own-begins, busy-early}

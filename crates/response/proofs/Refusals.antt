@@ -96,5 +96,5 @@ analysed {f} {ts} {xs} {o} a {g} e v z w is =
       answer = rw (p, t, ← w) is;
       slacks = rw (p, t);
       exact = λ _ i l. rw (slacks-at ts xs i l) (slack-exact ts xs i (v i l) (some-within ts v within i l));
-      exact_release = λ _ n. exact-slacks ts n xs;
+      exact_release = λ _ n. let same = exact-slacks ts n xs in (rw (w, same) at is, same);
     })

@@ -13,7 +13,7 @@ use Rattle.std.proofs.lemmas.Int.{ints}
 use Rattle.plan.specs.declared.tasks.Task.{Task}
 use Rattle.plan.specs.Tasks.{task_at, Valid}
 use Rattle.plan.proofs.Tests.{le-or-lt, not-false}
-use Rattle.response.specs.Analysis.{deadline_at, busy_up_to, max_response, response_of, no_slack, slack_of, slack, meets}
+use Rattle.response.specs.Analysis.{deadline_at, busy_up_to, max_response, response_of, response_time, no_slack, slack_of, slack, meets}
 use Rattle.response.specs.Claims.{Covers, IsSlack}
 use Rattle.response.specs.Inner.{busy_in_time}
 use Rattle.response.proofs.Exactness.{IsBusy, busy-exact}
@@ -22,14 +22,22 @@ use Rattle.response.proofs.Exactness.{IsBusy, busy-exact}
 pub late-not : (s : ℤ) → int_lt s (pos 0) ≡ not (int_le (pos 0) s)
 late-not s = grind (arith, ints)
 
--- by the busy period
-pub slack-is : (task : Task) (d r : ℕ) → 1 ≤ r → slack_of d (response_of task r) ≡ pos d -ℤ pos (r + task.jitter)
-slack-is task d zero h = let z : ⊥ = omega arith in absurd z
-slack-is task d (suc r) h = let e : suc r + task.jitter ≡ suc (r + task.jitter) = omega arith in rw e refl
+pub slack-is : (d r : ℕ) → 1 ≤ r → slack_of d r ≡ pos d -ℤ pos r
+slack-is d zero h = let z : ⊥ = omega arith in absurd z
+slack-is d (suc r) h = refl
 
-slack-none : (task : Task) (d r : ℕ) → r < 1 → slack_of d (response_of task r) ≡ no_slack
-slack-none task d zero h = refl
-slack-none task d (suc r) h = let z : ⊥ = omega arith in absurd z
+slack-none : (d r : ℕ) → r < 1 → slack_of d r ≡ no_slack
+slack-none d zero h = refl
+slack-none d (suc r) h = let z : ⊥ = omega arith in absurd z
+
+-- a response by the busy period
+response-is : (task : Task) (r : ℕ) → 1 ≤ r → response_of task r ≡ r + task.jitter
+response-is task zero h = let z : ⊥ = omega arith in absurd z
+response-is task (suc r) h = refl
+
+response-none : (task : Task) (r : ℕ) → r < 1 → response_of task r ≡ 0
+response-none task zero h = refl
+response-none task (suc r) h = let z : ⊥ = omega arith in absurd z
 
 module _ (ts : List Task) (xs : List ℕ) (i : ℕ) (v : Valid (task_at ts i)) where
   abbrev d : ℕ
@@ -41,8 +49,24 @@ module _ (ts : List Task) (xs : List ℕ) (i : ℕ) (v : Valid (task_at ts i)) w
   abbrev s : ℤ
   s = slack ts xs i
 
+  response-some : 1 ≤ r → response_time ts xs i ≡ r + (task_at ts i).jitter
+  response-some h = response-is (task_at ts i) r h
+
+  slack-some : 1 ≤ r → s ≡ pos d -ℤ pos (r + (task_at ts i).jitter)
+  slack-some h = rw (response-some h) (slack-is d (r + (task_at ts i).jitter) (omega arith))
+
+  unanswered : r < 1 → s ≡ no_slack
+  unanswered h = slack-none d (response_time ts xs i) (omega (arith, response-none (task_at ts i) r h))
+
   any : IsBusy max_response ts xs i r
   any = busy-exact max_response ts xs i (omega (arith, v.wcet_some))
+
+  -- no response time passes the longest one
+  pub response-early : response_time ts xs i ≤ max_response
+  response-early = elim (le-or-lt 1 r) [
+    | inl h ↦ omega (arith, response-some h, (any.covers h).early)
+    | inr h ↦ omega (arith, response-none (task_at ts i) r h)
+  ]
 
   -- a time up to the deadline is one up to the longest response
   up : {t : ℕ} → Covers d ts xs i t → Covers max_response ts xs i t
@@ -50,12 +74,12 @@ module _ (ts : List Task) (xs : List ℕ) (i : ℕ) (v : Valid (task_at ts i)) w
 
   -- the deadline is met exactly where a time up to it covers
   covers-slack : {t : ℕ} → Covers d ts xs i t → pos 0 ≤ℤ s
-  covers-slack {t} c = let l = any.least t (up c) in omega (arith, ints, slack-is (task_at ts i) d r l.0, l.1, c.early)
+  covers-slack {t} c = let l = any.least t (up c) in omega (arith, ints, slack-some l.0, l.1, c.early)
 
   slack-covers : pos 0 ≤ℤ s → Covers d ts xs i r
   slack-covers p = elim (le-or-lt 1 r) [
-    | inl h ↦ record { some = h; early = omega (arith, ints, slack-is (task_at ts i) d r h); covers = (any.covers h).covers }
-    | inr h ↦ let z : ⊥ = omega (arith, ints, slack-none (task_at ts i) d r h) in absurd z
+    | inl h ↦ record { some = h; early = omega (arith, ints, slack-some h); covers = (any.covers h).covers }
+    | inr h ↦ let z : ⊥ = omega (arith, ints, unanswered h) in absurd z
   ]
 
   -- the climb may be left past the deadline
@@ -77,7 +101,7 @@ module _ (ts : List Task) (xs : List ℕ) (i : ℕ) (v : Valid (task_at ts i)) w
   pub slack-exact : 1 ≤ get_or xs i 0 → IsSlack ts xs i s
   slack-exact p = elim (le-or-lt 1 r) [
     | inl h ↦
-        let e = slack-is (task_at ts i) d r h in
+        let e = slack-some h in
         let c = any.covers h in
         let d-some : 1 ≤ d = omega (arith, v.cap_some) in
         record {
@@ -92,7 +116,7 @@ module _ (ts : List Task) (xs : List ℕ) (i : ℕ) (v : Valid (task_at ts i)) w
           least = omega (arith, ints, e, c.early);
         }
     | inr h ↦
-        let e = slack-none (task_at ts i) d r h in
+        let e = unanswered h in
         record {
           met = λ q. let z : ⊥ = omega (arith, ints, e) in absurd z;
           on_time = λ t. covers-slack;

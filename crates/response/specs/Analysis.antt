@@ -37,14 +37,14 @@ demand ts xs i t = own_demand (task_at ts i) + interference_above ts xs i t
 abbrev pub deadline_at : List Task → List ℕ → ℕ → ℕ
 deadline_at ts xs i = deadline (task_at ts i) (get_or xs i 0)
 
--- "The search for t climbs from the job's own work and stops at the first t that covers its own demand, or past" a
--- limit; 0 past it
+-- "The search for t climbs from the job's own work and stops at the first t that covers its own demand, or past" a last
+-- t; 0 past it
 unfoldable pub climb_from : ℕ → ℕ → (ℕ → ℕ) → ℕ → ℕ
-climb_from zero limit needs t = 0
-climb_from (suc left) limit needs t =
-    elim (ltb limit t) [
+climb_from zero last needs t = 0
+climb_from (suc left) last needs t =
+    elim (ltb last t) [
       | true ↦ 0
-      | false ↦ elim (leb (needs t) t) [ true ↦ t | false ↦ climb_from left limit needs (needs t) ]
+      | false ↦ elim (leb (needs t) t) [ true ↦ t | false ↦ climb_from left last needs (needs t) ]
     ]
 
 -- the field's busy period: the least t up to a last one that covers; 0 where there is none

@@ -30,7 +30,7 @@ pub record Begins (limit : ℕ) (ts : List Task) (xs : List ℕ) (i t : ℕ) : T
   pub some : 1 ≤ t
   pub below : (s : ℕ) → Covers limit ts xs i s → t ≤ s
 
--- the last t at which a task at a period meets its deadline, if that covers; 0 where there is none
+-- the last t with which a task at a period meets its deadline; 0 where there is none
 abbrev pub last_end : Task → ℕ → ℕ
 last_end task period = deadline task period - task.jitter
 

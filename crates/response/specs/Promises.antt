@@ -67,4 +67,4 @@ pub record Analyses (f : Fault) (ts : List Task) (xs : List ℕ) (o o' : List �
       → IsSlack ts xs i (get_or o' i (pos 0))
   -- "Exact release in 01 is now the case of late 0."
   pub exact_release : passed (times_fault f ts xs (length o)) ≡ true → WithoutJitter ts
-      → o' ≡ exact_slack_list ts xs
+      → (r ≡ answer_times (exact_slack_list ts xs)) × (o' ≡ exact_slack_list ts xs)

@@ -23,7 +23,7 @@ impl<'a> Assignment<'a> {
     ghost use Rattle.plan.specs.Promises.{plan_tasks};
     ghost use Rattle.response.specs.Analysis.{demand, busy_period, max_response, response_time, deadline_at};
     ghost use Rattle.response.specs.Analysis.{slack, meets, schedulable, slack_list, first_missed};
-    ghost use Rattle.response.specs.Inner.{Climbs, last_end_at, utilization_above, some_time, some_task};
+    ghost use Rattle.response.specs.Inner.{Begins, Climbs, last_end_at, utilization_above, some_time, some_task};
 
     // The deadline of task i.
     fn deadline(&self, i: usize) -> u32
@@ -46,7 +46,7 @@ impl<'a> Assignment<'a> {
         sum
     }
 
-    // The last t at which task i meets its deadline, if that covers its demand.
+    // The last t with which task i meets its deadline, 0 where there is none.
     pub fn last_end(&self, i: usize) -> u32
         requires { i < length self.now.periods.now }
         ensures { result ≡ last_end_at (plan_tasks self.now.plan.now) self.now.periods.now i }
@@ -77,15 +77,24 @@ impl<'a> Assignment<'a> {
         }
     }
 
-    // The response time of task i: its busy period, and its jitter.
+    // The response time of task i: its busy period and its jitter, by a climb from a time that no such t undercuts.
+    fn response_from(&self, i: usize, start: u32) -> Option<u32>
+        requires { let ts = plan_tasks self.now.plan.now in let xs = self.now.periods.now in
+            (i < length xs) × Begins max_response ts xs i start }
+        ensures { result ≡ some_time (response_time (plan_tasks self.now.plan.now) self.now.periods.now i) }
+    {
+        let jitter = self.plan.tasks[i].jitter;
+        let busy = self.busy_from(i, MAX_RESPONSE - jitter, start)?;
+        Some(busy + jitter)
+    }
+
+    // The response time of task i.
     pub fn response_time(&self, i: usize) -> Option<u32>
         requires { i < length self.now.periods.now }
         ensures { result ≡ some_time (response_time (plan_tasks self.now.plan.now) self.now.periods.now i) }
     {
-        let task = &self.plan.tasks[i];
-        let last = MAX_RESPONSE - task.jitter;
-        let busy = self.busy_from(i, last, own_demand(task))?;
-        Some(busy + task.jitter)
+        let start = own_demand(&self.plan.tasks[i]);
+        self.response_from(i, start)
     }
 
     // The slack of task i, how much its response time leaves of its deadline. The utilization of the tasks above tells
@@ -95,15 +104,14 @@ impl<'a> Assignment<'a> {
             × (above ≡ utilization_above (plan_tasks self.now.plan.now) self.now.periods.now i) }
         ensures { result ≡ slack (plan_tasks self.now.plan.now) self.now.periods.now i }
     {
-        let task = &self.plan.tasks[i];
-        let start = begin_by_utilization(own_demand(task), above, MAX_RESPONSE);
-        match self.busy_from(i, MAX_RESPONSE - task.jitter, start) {
-            Some(busy) => self.deadline(i) as i32 - (busy + task.jitter) as i32,
+        let start = begin_by_utilization(own_demand(&self.plan.tasks[i]), above, MAX_RESPONSE);
+        match self.response_from(i, start) {
+            Some(response) => self.deadline(i) as i32 - response as i32,
             None => NO_SLACK,
         }
     }
 
-    // Whether task i meets its deadline: the climb is left past that.
+    // Whether task i meets its deadline: the climb is left past the last t with which it does.
     pub fn meets_deadline(&self, i: usize) -> bool
         requires { i < length self.now.periods.now }
         ensures { result ≡ meets (plan_tasks self.now.plan.now) self.now.periods.now i }

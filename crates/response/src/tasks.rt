@@ -12,7 +12,7 @@ pub fn deadline(task: &Task, period: u32) -> u32
     period.min(task.deadline_cap)
 }
 
-// The last t at which a task at a period meets its deadline, if that covers its demand.
+// The last t with which a task at a period meets its deadline, 0 where there is none.
 pub fn last_end(task: &Task, period: u32) -> u32
     ensures { result ≡ last_end task.now period }
 {

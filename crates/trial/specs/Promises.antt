@@ -2,7 +2,7 @@
 use Rattle.std.specs.Prelude.{◌≡◌, true, cond, List, [], ℕ, eqb, length, take}
 use Rattle.plan.specs.Files.{file_fault, accepted, tasks_of}
 use Rattle.optimizer.specs.Claims.{Settles, Improves}
-use Rattle.optimizer.specs.Promises.{Outcome, best_outcome_of, best_written, room_of}
+use Rattle.optimizer.specs.Promises.{Outcome, best_outcome_of, exact_best_outcome_of, AtExactRelease, best_written, room_of}
 use Rattle.desk.specs.declared.block.Carried.{Carried}
 use Rattle.desk.specs.Block.{block_size, encoded, carried, padded}
 use Rattle.desk.specs.Promises.{desk_work}
@@ -30,3 +30,6 @@ pub record BestCalls (s : List ℕ) (budget : ℕ) (b b' : List ℕ) (r : ℕ) :
   pub settles : length b ≡ block_size → accepted s ≡ true
       → let c = carried b' in let xs = take c.tasks c.periods in
       Settles (tasks_of s) budget (room_of (tasks_of s) desk_work) c.answer xs × Improves (tasks_of s) c.answer xs
+  -- without jitter the outcome that the block carries is that by the time test of exact release
+  pub exact_release : let ts = tasks_of s in
+      AtExactRelease ts (best_outcome s budget) (exact_best_outcome_of (file_fault s) ts budget (length ts) desk_work)

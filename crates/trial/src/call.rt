@@ -32,6 +32,7 @@ impl Operation for Best {
 }
 
 // DESK's call with BEST in place of CHEAPEST: a stop's cost and periods in the block are the incumbent's.
+#[tactic(auto, using(crate::proofs::ExactRelease::exact_best))]
 pub fn best_call(file: &[u8], block: &mut [u8], budget: u64) -> u32
     ensures { BestCalls file.now budget block.old block.new result }
 {

@@ -18,8 +18,8 @@ returns-clause-is c =
     let e = c.last_miss_from-miss.ensures in
     (raised-last c.requires found.0 found.1 e.is e.moved).0
 
-pub returns-clause-busy : goal.returns-clause-busy
-returns-clause-busy c =
+pub returns-clause-responds : goal.returns-clause-responds
+returns-clause-responds c =
     let found = found-some _ (sym (rw c.last_end.ensures at c.busy_from.ensures) ∙ c.in_ok-own.was) in
     let e = c.last_miss_from-miss.ensures in
     rw c.deref.ensures.0 at c.then_some.ensures ∙ (raised-last c.requires found.0 found.1 e.is e.moved).1

@@ -22,6 +22,6 @@ loop-i-preserved c =
     elim c.match-above.branch [
       | in-Some w ↦
           let e = w.raise-above.ensures in
-          rw (w.u-is, w.above-is) (raising-met g inside w.in-Some.is (rw tasks at e.is) e.busy)
+          rw (w.u-is, w.above-is) (raising-met g inside w.in-Some.is (rw tasks at e.is) e.responds)
       | in-None w ↦ rw (w.u-is, w.above-is, tasks) (raising-missed g inside w.in-None.is)
     ]

@@ -1,12 +1,12 @@
 use Rattle.std.proofs.Common.{arith}
-use Rattle.response.proofs.Limits.{climbs-own, found-up_to}
+use Rattle.plan.specs.Promises.{plan_tasks}
+use Rattle.response.specs.Analysis.{max_response}
+use Rattle.response.proofs.Exactness.{own-some, own-begins}
 use Rattle.response.proofs.assignment.Assignment.response_time.Goals as goal
 
-pub busy_from-requires : goal.busy_from-requires
-busy_from-requires c =
-    rw (c.own_demand.ensures, c.deref.ensures.0) (climbs-own c.args.self.now.limits c.requires (omega arith))
-
-pub overflow_add-result : goal.overflow_add-result
-overflow_add-result c =
-    let t = found-up_to c.args.self.now.limits c.requires (rw c.deref.ensures.0 at c.busy_from.ensures) c.in_ok-busy.was in
-    rw c.deref.ensures.0 (omega (arith, t.early))
+pub response_from-requires : goal.response_from-requires
+response_from-requires c =
+    let ts = plan_tasks c.args.self.now.plan.now in
+    let l = c.args.self.now.limits in
+    let works = own-some ts l.valid c.args.i (omega (arith, l.sized)) in
+    (c.requires, rw (c.own_demand-start.ensures, c.deref.ensures.0) (own-begins max_response ts c.args.self.now.periods.now c.args.i works))

@@ -1,0 +1,2 @@
+-- Laws of BEST in a block.
+mod ExactRelease  -- plans without jitter
