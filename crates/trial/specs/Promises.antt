@@ -2,7 +2,8 @@
 use Rattle.std.specs.Prelude.{◌≡◌, true, cond, List, [], ℕ, eqb, length, take}
 use Rattle.plan.specs.Files.{file_fault, accepted, tasks_of}
 use Rattle.optimizer.specs.Claims.{Settles, Improves}
-use Rattle.optimizer.specs.Promises.{Outcome, best_outcome_of, exact_best_outcome_of, AtExactRelease, best_written, room_of}
+use Rattle.optimizer.specs.Promises.{Outcome, best_outcome_of, best_written, room_of}
+use Rattle.optimizer.specs.Promises.{exact_best_outcome_of, AtExactRelease}
 use Rattle.desk.specs.declared.block.Carried.{Carried}
 use Rattle.desk.specs.Block.{block_size, encoded, carried, padded}
 use Rattle.desk.specs.Promises.{desk_work}
