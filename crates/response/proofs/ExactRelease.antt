@@ -1,15 +1,14 @@
 -- Without jitter the time test is that of exact release.
-use mathlib.Core.Path.{◌≡◌, refl, sym, ap, ◌∙◌, fun_ext}
+use mathlib.Core.Path.{◌≡◌, refl, ap, ◌∙◌, fun_ext}
 use mathlib.Core.Logic.{inl, inr}
 use mathlib.Core.List.{List}
 use Prim.Native.Nat.{ℕ, zero, suc, ◌+◌}
 use native.Mathlib.Omega.{arith}
 use lib.ListN.{length, get_or-eq_default}
-use borrow.Author.Tests.{eq-eqb, ne_eqb}
 use Rattle.plan.specs.declared.tasks.Task.{Task}
 use Rattle.plan.specs.Lists.{tabulate}
 use Rattle.plan.specs.Tasks.{no_task, task_at}
-use Rattle.plan.proofs.Tests.{bool, both, le-or-lt}
+use Rattle.plan.proofs.Tests.{le-or-lt}
 use Rattle.response.specs.Analysis.{deadline_at, slack_of, interference_above, demand, busy_period, response_of, response_time}
 use Rattle.response.specs.Analysis.{first_meet, schedulable, slack_list}
 use Rattle.response.specs.ExactRelease.{WithoutJitter, exact_above, exact_demand, exact_response_time, exact_slack_list}

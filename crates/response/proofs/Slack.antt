@@ -1,5 +1,5 @@
 -- Slack: that it tells what the definition of demand 2 says, and that the climb may be left past the deadline.
-use mathlib.Core.Path.{◌≡◌, refl, ◌∙◌}
+use mathlib.Core.Path.{◌≡◌, refl, ap, ◌∙◌}
 use mathlib.Core.Bool.{true, false, not}
 use mathlib.Core.Logic.{inl, inr}
 use mathlib.Core.List.{List}
@@ -8,14 +8,14 @@ use native.Mathlib.Omega.{arith}
 use lib.Dec.{leb}
 use lib.ListN.{get_or}
 use borrow.Author.Tests.{le-leb, lt-leb}
-use Rattle.std.specs.Prelude.{ℤ, pos, ◌-ℤ◌, ◌≤ℤ◌, int_lt, int_le}
+use Rattle.std.specs.Prelude.{None, ℤ, pos, ◌-ℤ◌, ◌≤ℤ◌, int_lt, int_le}
 use Rattle.std.proofs.lemmas.Int.{ints}
 use Rattle.plan.specs.declared.tasks.Task.{Task}
 use Rattle.plan.specs.Tasks.{task_at, Valid}
 use Rattle.plan.proofs.Tests.{le-or-lt, not-false}
 use Rattle.response.specs.Analysis.{deadline_at, busy_up_to, max_response, response_of, response_time, no_slack, slack_of, slack, meets}
 use Rattle.response.specs.Claims.{Covers, IsSlack}
-use Rattle.response.specs.Inner.{busy_in_time}
+use Rattle.response.specs.Inner.{Begins, busy_in_time, some_time}
 use Rattle.response.proofs.Exactness.{IsBusy, busy-exact}
 
 -- below 0, or 0 or more
@@ -66,6 +66,13 @@ module _ (ts : List Task) (xs : List ℕ) (i : ℕ) (v : Valid (task_at ts i)) w
   response-early = elim (le-or-lt 1 r) [
     | inl h ↦ omega (arith, response-some h, (any.covers h).early)
     | inr h ↦ omega (arith, response-none (task_at ts i) r h)
+  ]
+
+  -- none where a climb would begin past that
+  pub response-past : {t : ℕ} → Begins max_response ts xs i t → max_response < t → None ≡ some_time (response_time ts xs i)
+  response-past b h = elim (le-or-lt 1 r) [
+    | inl l ↦ let c = any.covers l in absurd (omega (arith, c.early, b.below r c))
+    | inr l ↦ let e : 0 ≡ response_time ts xs i = omega (arith, response-none (task_at ts i) r l) in ap some_time e
   ]
 
   -- a time up to the deadline is one up to the longest response

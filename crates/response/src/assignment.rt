@@ -83,6 +83,10 @@ impl<'a> Assignment<'a> {
             (i < length xs) × Begins max_response ts xs i start }
         ensures { result ≡ some_time (response_time (plan_tasks self.now.plan.now) self.now.periods.now i) }
     {
+        // Under a full utilization the climbs begin past the longest response: no jitter need be read.
+        if MAX_RESPONSE < start {
+            return None;
+        }
         let jitter = self.plan.tasks[i].jitter;
         let busy = self.busy_from(i, MAX_RESPONSE - jitter, start)?;
         Some(busy + jitter)

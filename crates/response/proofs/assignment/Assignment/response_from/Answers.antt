@@ -1,4 +1,6 @@
 use Rattle.std.proofs.Common.{arith}
+use Rattle.plan.specs.Promises.{plan_tasks}
+use Rattle.response.proofs.Slack.{response-past}
 use Rattle.response.proofs.Limits.{climbs-within, found-up_to}
 use Rattle.response.proofs.assignment.Assignment.response_from.Goals as goal
 
@@ -11,3 +13,9 @@ pub overflow_add-result : goal.overflow_add-result
 overflow_add-result c =
     let t = found-up_to c.args.self.now.limits c.requires.0 (rw c.deref.ensures.0 at c.busy_from.ensures) c.in_ok-busy.was in
     rw c.deref.ensures.0 (omega (arith, t.early))
+
+pub returns-then-start-gt-MAX_RESPONSE : goal.returns-then-start-gt-MAX_RESPONSE
+returns-then-start-gt-MAX_RESPONSE c =
+    let plan = c.args.self.now.plan.now in
+    let valid = plan.valid c.args.i (omega (arith, c.args.self.now.limits.sized, c.requires.0)) in
+    response-past (plan_tasks plan) c.args.self.now.periods.now c.args.i valid c.requires.1 (omega arith)
