@@ -1,5 +1,5 @@
--- The children of a node under CHEAPEST's rule: its periods one at a time one above those of its maximal unschedulable assignment.
-use mathlib.Core.Path.{◌≡◌, refl, sym, ap, ◌∙◌}
+-- The children of a node: its periods one at a time one above those of its maximal unschedulable assignment.
+use mathlib.Core.Path.{◌≡◌, sym, ap, ◌∙◌}
 use mathlib.Core.Bool.{Bool, true}
 use mathlib.Core.Logic.{inl, inr}
 use mathlib.Core.List.{List}
@@ -15,11 +15,11 @@ use Rattle.plan.specs.Tasks.{period_mins, period_maxs}
 use Rattle.plan.proofs.Tests.{bool, le-or-lt, eq-or-ne, both}
 use Rattle.response.proofs.Dominance.{same-eq, AtMost, at-most-or, at-most-set, set-at-most}
 use Rattle.response.proofs.Bounds.{Within, within-set}
-use Rattle.boundary.proofs.Maximal.{FailsAbove, mua-fails}
+use Rattle.boundary.proofs.Maximal.{FailsAbove}
 use Rattle.optimizer.specs.Nodes.{occurrences}
-use Rattle.optimizer.specs.Search.{child, children_from, children, rule}
+use Rattle.optimizer.specs.Search.{child, children_from}
 use Rattle.optimizer.proofs.Multiset.{Listed, listed-cases, listed_here}
-use Rattle.optimizer.proofs.Optimal.{Branches, Lawful}
+use Rattle.optimizer.proofs.Optimal.{Branches}
 
 -- what is asked of tasks and of a time test: no minimum above its maximum, and longer periods never make an assignment unschedulable
 pub record Sound (ts : List Task) (test : List ℕ → Bool) : Type 0 where
@@ -113,14 +113,3 @@ module _ {ts : List Task} {test : List ℕ → Bool} (𝓢 : Sound ts test) wher
           )
         ];
       }
-
-  pub lawful : test (period_maxs ts) ≡ true → Lawful ts test (rule ts test) (λ s. Unit {0})
-  unfolding children
-  lawful top = record {
-    weighs = refl;
-    ranged = 𝓢.ranged;
-    top = top;
-    answer = λ s l c w e. e;
-    carried = λ s l c w e. tt;
-    branches = λ s l c w e. branches-of w (mua-fails test w e);
-  }

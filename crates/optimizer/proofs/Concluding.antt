@@ -1,6 +1,6 @@
 -- From the rules in their order and the search to a call's outcome: 22 and 24 after the file's own, then 31, 32 and the search.
 use mathlib.Core.Path.{◌≡◌, refl, sym, ap, ◌∙◌}
-use mathlib.Core.Bool.{Bool, true, false}
+use mathlib.Core.Bool.{true, false}
 use mathlib.Core.Logic.{inl, inr}
 use mathlib.Core.List.{List}
 use Prim.Native.Nat.{ℕ, suc, ◌+◌, ◌≤◌, ◌<◌}
@@ -10,10 +10,14 @@ use lib.ListN.{length, replicate}
 use borrow.Author.Tests.{eq-eqb, ne_eqb, lt-leb, lt-ltb, le-ltb}
 use Rattle.std.specs.List.{AllWithin, HoldsAt}
 use Rattle.plan.specs.declared.tasks.Task.{Task}
+use Rattle.plan.specs.declared.errors.ReadError.{ReadError}
 use Rattle.plan.specs.declared.faults.Fault.{Fault}
-use Rattle.plan.specs.Faults.{fault, none, passed}
+use Rattle.plan.specs.Errors.{read_error_fault}
+use Rattle.plan.specs.Faults.{fault, none}
+use Rattle.plan.specs.Files.{file_fault}
 use Rattle.plan.specs.Tasks.{max_tasks, no_task, AllValid, period_maxs, weights}
-use Rattle.plan.proofs.Tests.{not-false}
+use Rattle.plan.proofs.Tests.{not-false, eq-or-ne, le-or-lt}
+use Rattle.plan.proofs.Numbers.{read-error-numbers}
 use Rattle.plan.proofs.Rules.{or-next, or-here, run-all, run-skip, run-task}
 use Rattle.response.specs.Analysis.{schedulable, slack_list, first_missed}
 use Rattle.response.specs.Inner.{Limits}
@@ -23,15 +27,14 @@ use Rattle.response.proofs.Missed.{schedulable-first, first-schedulable}
 use Rattle.optimizer.specs.declared.conclusion.Answer.{Answer}
 use Rattle.optimizer.specs.declared.errors.CallError.{CallError}
 use Rattle.optimizer.specs.Answers.{call_error_fault, refused_answer}
-use Rattle.optimizer.specs.Rule.{End}
-use Rattle.optimizer.specs.Search.{incumbent_search}
-use Rattle.optimizer.specs.Inner.{Concludes, Searchable, ended_by, Ends, Leaves}
-use Rattle.optimizer.specs.Promises.{call_fault, infeasible_alone, alone_fault, infeasible_fault, Outcome, refused, concluded, called}
-use Rattle.optimizer.specs.Promises.{is_searched}
+use Rattle.optimizer.specs.Search.{search}
+use Rattle.optimizer.specs.Inner.{Ends}
+use Rattle.optimizer.specs.Promises.{call_fault, infeasible_alone, alone_fault, infeasible_fault, Outcome, refused, searched}
+use Rattle.optimizer.specs.Promises.{concluded, called, outcome_of, outcome, is_searched, Answers}
 use Rattle.optimizer.proofs.Numbers.{call-error-numbers}
 use Rattle.optimizer.proofs.Guarantees.{search-optimal}
 use Rattle.optimizer.proofs.Settled.{sound, alone, tasks-pass}
-use Rattle.optimizer.proofs.Improving.{incumbent-first, lawful-incumbent}
+use Rattle.optimizer.proofs.Improving.{incumbent-first, lawful}
 
 -- a refusal leaves both spaces as they were
 module _ (e : CallError) where
@@ -41,41 +44,28 @@ module _ (e : CallError) where
   pub error-some : f.number ≡ 0 → ⊥
   error-some z = omega (arith, call-error-numbers e)
 
-  leaves-refused : (keeps : Bool) {o w : List ℕ} → Leaves keeps (refused f) o o w w (refused_answer f)
-  leaves-refused true = record {
-    answer = refl;
-    periods = rw (ne_eqb _ 0 error-some, lt-leb 33 f.number (omega (arith, call-error-numbers e)));
-    work = rw (ne_eqb _ 0 error-some, lt-leb 33 f.number (omega (arith, call-error-numbers e)));
-  }
-  leaves-refused false = record {
-    answer = refl;
-    periods = rw (ne_eqb _ 0 error-some);
-    work = rw (ne_eqb _ 0 error-some, lt-leb 33 f.number (omega (arith, call-error-numbers e)));
-  }
+  pub unsearched : is_searched f.number ≡ false
+  unsearched = rw (ne_eqb _ 0 error-some, lt-leb 33 f.number (omega (arith, call-error-numbers e)))
 
-  pub concluded-refused : (keeps : Bool) (ts : List Task) (x : Outcome) {o w : List ℕ} → f ≡ infeasible_fault ts
-      → Leaves keeps (concluded ts x) o o w w (refused_answer f)
-  concluded-refused keeps ts x q = rw (← q, ne_eqb _ 0 error-some) (leaves-refused keeps)
+  answers-refused : {o w : List ℕ} → Answers (refused f) o o w w (refused_answer f)
+  answers-refused = record { answer = refl; periods = rw unsearched; work = rw unsearched }
 
-  pub called-refused : (keeps : Bool) (g : Fault) (ts : List Task) (x : Outcome) {o w : List ℕ} → f ≡ call_fault g ts (length o) (length w)
-      → Leaves keeps (called g ts (length o) (length w) x) o o w w (refused_answer f)
-  called-refused keeps g ts x q = rw (← q, ne_eqb _ 0 error-some) (leaves-refused keeps)
+  pub concluded-refused : (ts : List Task) (x : Outcome) {o w : List ℕ} → f ≡ infeasible_fault ts
+      → Answers (concluded ts x) o o w w (refused_answer f)
+  concluded-refused ts x q = rw (← q, ne_eqb _ 0 error-some) answers-refused
+
+  pub called-refused : (g : Fault) (ts : List Task) (x : Outcome) {o w : List ℕ} → f ≡ call_fault g ts (length o) (length w)
+      → Answers (called g ts (length o) (length w) x) o o w w (refused_answer f)
+  called-refused g ts x q = rw (← q, ne_eqb _ 0 error-some) answers-refused
 
 pub longest-limits : (ts : List Task) → AllValid ts → length ts ≤ max_tasks → Limits ts (period_maxs ts)
 longest-limits ts v few = limits-within ts v (maxs-within ts (ranged ts v)) few
 
--- a search leaves the work space cleared
-module _ (e : End (List ℕ)) (k : is_searched e.number ≡ true) (ws o : List ℕ) {o' w w' : List ℕ} {r : Answer} where
-  leaves-searched : (keeps : Bool) → Ends keeps (ended_by keeps ws e) o o' r → w' ≡ replicate (length w) 0
-      → Leaves keeps (ended_by keeps ws e) o o' w w' r
-  leaves-searched true x c = record { answer = x.answer; periods = rw k x.periods; work = rw k c }
-  leaves-searched false x c = record { answer = x.answer; periods = x.periods; work = rw k c }
-
 pub searched-number : (ts : List Task) → AllValid ts → schedulable ts (period_maxs ts) ≡ true → (budget room : ℕ)
-    → is_searched (incumbent_search ts budget room).number ≡ true
+    → is_searched (search ts budget room).number ≡ true
 searched-number ts v t budget room =
     let s = sound v in
-    elim (search-optimal (lawful-incumbent s t) (incumbent-first s t) budget room).number [
+    elim (search-optimal (lawful s t) (incumbent-first s t) budget room).number [
       | inl q ↦ rw q
       | inr p ↦ elim p [ inl q ↦ rw q | inr q ↦ rw q ]
     ]
@@ -125,16 +115,16 @@ module _ (ts : List Task) where
     passes : (infeasible_fault ts).number ≡ 0
     passes = ap (λ f. f.number) (sym e)
 
-    pub searchable : {o w : List ℕ} → Concludes ts o w → Searchable ts o w
-    searchable g = record { given = g; top = tasks-pass ts passes }
+    pub longest-meet : schedulable ts (period_maxs ts) ≡ true
+    longest-meet = tasks-pass ts passes
 
-    pub concluded-searched : AllValid ts → (keeps : Bool) (budget room : ℕ) {o o' w w' : List ℕ} {r : Answer}
-        → let x = ended_by keeps (weights ts) (incumbent_search ts budget room) in
-        Ends keeps x o o' r → w' ≡ replicate (length w) 0 → Leaves keeps (concluded ts x) o o' w w' r
-    concluded-searched v keeps budget room {o} x c =
-        rw (eq-eqb _ 0 passes)
-        (leaves-searched (incumbent_search ts budget room) (searched-number ts v (tasks-pass ts passes) budget room) (weights ts) o
-        keeps x c)
+    -- it leaves the work space cleared
+    pub concluded-searched : AllValid ts → (budget room : ℕ) {o o' w w' : List ℕ} {r : Answer}
+        → let x = searched (weights ts) (search ts budget room) in
+        Ends x o' r → w' ≡ replicate (length w) 0 → Answers (concluded ts x) o o' w w' r
+    concluded-searched v budget room x c =
+        let k = searched-number ts v longest-meet budget room in
+        rw (eq-eqb _ 0 passes) (record { answer = x.answer; periods = rw k x.periods; work = rw k c })
 
 -- the rules before the search's own
 module _ (f : Fault) (ts : List Task) (space work : ℕ) where
@@ -152,12 +142,33 @@ module _ (f : Fault) (ts : List Task) (space work : ℕ) where
       unfolding call_fault
       call-work l = sym (or-next f _ e ∙ rw (eq-eqb space (length ts) h, lt-ltb work (length ts) l))
 
-      pub call_passes : length ts ≤ work → passed (call_fault f ts space work) ≡ true
+      pub call-passes : length ts ≤ work → none ≡ call_fault f ts space work
       unfolding call_fault
-      call_passes l = rw (or-next f _ e, eq-eqb space (length ts) h, le-ltb work (length ts) l)
+      call-passes l = sym (or-next f _ e ∙ rw (eq-eqb space (length ts) h, le-ltb work (length ts) l))
 
--- they pass: the outcome of tasks is that of the call
-pub called-concluded : (keeps : Bool) (f : Fault) (ts : List Task) (x : Outcome) (o w : List ℕ) {o' w' : List ℕ} {r : Answer}
-    → passed (call_fault f ts (length o) (length w)) ≡ true → Leaves keeps (concluded ts x) o o' w w' r
-    → Leaves keeps (called f ts (length o) (length w) x) o o' w w' r
-called-concluded keeps f ts x o w t a = rw t a
+-- a file's own refusal is the call's
+pub unread : (e : ReadError) (s : List ℕ) → read_error_fault e ≡ file_fault s → (budget space work : ℕ)
+    → outcome s budget space work ≡ refused (read_error_fault e)
+unfolding outcome_of call_fault
+unread e s h budget space work =
+    let n = ne_eqb (read_error_fault e).number 0 (λ z. omega (arith, read-error-numbers e)) in rw (← h, n, n)
+
+-- they pass: the spaces fit
+module _ (ts : List Task) (space work : ℕ) (e : none ≡ call_fault none ts space work) where
+  pub spaces-sized : space ≡ length ts
+  spaces-sized = elim (eq-or-ne space (length ts)) [
+    | inl h ↦ h
+    | inr h ↦ let z = ap (λ (f : Fault). f.number) (e ∙ sym (call-space none ts space work refl h)) in omega arith
+  ]
+
+  pub spaces-room : length ts ≤ work
+  spaces-room = elim (le-or-lt (length ts) work) [
+    | inl l ↦ l
+    | inr l ↦ let z = ap (λ (f : Fault). f.number) (e ∙ sym (call-work none ts space work refl spaces-sized l)) in omega arith
+  ]
+
+module _ (f : Fault) (ts : List Task) (o w : List ℕ) (e : none ≡ call_fault f ts (length o) (length w)) where
+  -- the outcome of tasks is that of the call
+  pub called-concluded : (x : Outcome) {o' w' : List ℕ} {r : Answer} → Answers (concluded ts x) o o' w w' r
+      → Answers (called f ts (length o) (length w) x) o o' w w' r
+  called-concluded x a = rw (← e) a

@@ -15,9 +15,8 @@ use Rattle.response.specs.Analysis.{own_demand}
 use Rattle.response.specs.ExactRelease.{WithoutJitter}
 use Rattle.response.proofs.ExactRelease.{no-jitter, exact-slacks, exact-test}
 use Rattle.optimizer.specs.declared.conclusion.Answer.{Answer}
-use Rattle.optimizer.specs.Promises.{call_fault, alone_fault, none_fault, infeasible_fault, Outcome, called, outcome_of, best_outcome_of}
-use Rattle.optimizer.specs.Promises.{exact_alone_fault, exact_none_fault, exact_infeasible_fault, exact_called}
-use Rattle.optimizer.specs.Promises.{exact_outcome_of, exact_best_outcome_of, written, best_written, Answers}
+use Rattle.optimizer.specs.Promises.{call_fault, alone_fault, none_fault, infeasible_fault, Outcome, called, outcome_of, Answers}
+use Rattle.optimizer.specs.Promises.{exact_alone_fault, exact_none_fault, exact_infeasible_fault, exact_called, exact_outcome_of}
 
 module _ (ts : List Task) (n : WithoutJitter ts) where
   exact-alone : alone_fault ts ≡ exact_alone_fault ts
@@ -44,15 +43,7 @@ module _ (ts : List Task) (n : WithoutJitter ts) where
     unfolding outcome_of exact_outcome_of
     exact-outcome budget = rw (exact-called, exact-test ts n) refl
 
-    pub best-outcome : (budget : ℕ) → best_outcome_of f ts budget space work ≡ exact_best_outcome_of f ts budget space work
-    unfolding best_outcome_of exact_best_outcome_of
-    best-outcome budget = rw (exact-called, exact-test ts n) refl
-
   module _ (f : Fault) (budget : ℕ) (o w : List ℕ) {o' w' : List ℕ} {r : Answer} where
-    pub exact-answers : (let x = outcome_of f ts budget (length o) (length w) in Answers x (written x o) o' w w' r)
-        → let x = exact_outcome_of f ts budget (length o) (length w) in Answers x (written x o) o' w w' r
+    pub exact-answers : Answers (outcome_of f ts budget (length o) (length w)) o o' w w' r
+        → Answers (exact_outcome_of f ts budget (length o) (length w)) o o' w w' r
     exact-answers a = rw (exact-outcome f (length o) (length w) budget) at a
-
-    pub best-answers : (let x = best_outcome_of f ts budget (length o) (length w) in Answers x (best_written x o) o' w w' r)
-        → let x = exact_best_outcome_of f ts budget (length o) (length w) in Answers x (best_written x o) o' w w' r
-    best-answers a = rw (best-outcome f (length o) (length w) budget) at a

@@ -1,4 +1,4 @@
--- The published examples of the search, and BEST's incumbents in one of them, computed from the bytes of their files.
+-- The published examples of the search, computed from the bytes of their files.
 use mathlib.Core.Path.{◌≡◌, refl, ap, ◌∙◌}
 use mathlib.Core.Bool.{Bool, true, false, not}
 use mathlib.Core.List.{List, [], ◌∷◌}
@@ -25,16 +25,16 @@ use Rattle.boundary.specs.Mua.{mua}
 use Rattle.boundary.specs.Lowering.{lowering}
 use Rattle.optimizer.specs.Nodes.{least_of}
 use Rattle.optimizer.specs.Rule.{Rule, least, next, search_from}
-use Rattle.optimizer.specs.Search.{children, rule, start, incumbent_rule}
-use Rattle.optimizer.specs.Promises.{call_fault, alone_fault, infeasible_fault, room_of, Outcome, refused, searched, best_searched}
-use Rattle.optimizer.specs.Promises.{outcome_of, outcome, best_outcome_of}
+use Rattle.optimizer.specs.Search.{children, rule, start, search_by}
+use Rattle.optimizer.specs.Promises.{call_fault, alone_fault, infeasible_fault, room_of, Outcome, refused, searched, outcome_of, outcome}
 
 abbrev answered : List ℕ → ℕ → ℕ → Outcome
 answered xs total rounds = record { answer = record { fault = none; cost = total; rounds = rounds; bound = 0 }; periods = xs }
 
-abbrev stopped : ℕ → ℕ → ℕ → Outcome
-stopped number bound rounds =
-    record { answer = record { fault = fault number 0; cost = 0; rounds = rounds; bound = bound }; periods = [] }
+-- with the incumbent and its cost
+abbrev stopped : ℕ → ℕ → ℕ → List ℕ → ℕ → Outcome
+stopped number bound rounds xs total =
+    record { answer = record { fault = fault number 0; cost = total; rounds = rounds; bound = bound }; periods = xs }
 
 -- the nodes taken off the list, up to the answer
 abbrev taken_from : (R : Rule) → ℕ → R.State → List (List ℕ) → List (List ℕ)
@@ -44,7 +44,7 @@ taken_from R (suc left) s nodes =
     ∷ elim (R.answers s (least R nodes)) [ true ↦ [] | false ↦ taken_from R left (R.after s (least R nodes)) (next R s nodes) ]
 
 abbrev taken : List ℕ → List (List ℕ)
-taken s = let ts = tasks_of s in taken_from (rule ts (schedulable ts)) 100000 tt (start ts)
+taken s = let ts = tasks_of s in taken_from (rule ts (schedulable ts)) 100000 (period_maxs ts) (start ts)
 
 -- with a space of two numbers for the periods, and an ample work space
 abbrev ample : List ℕ → ℕ → Outcome
@@ -60,28 +60,16 @@ pub record Published : Type 0 where
   -- "P, weights 1 and 3: (3,3), cost 12, rounds 3. P, radio's cap 3: (3,3), cost 6, rounds 3."
   pub weights13 : ample (variant_p 6 1000 3) 100000 ≡ answered (3 ∷ 3 ∷ []) 12 3
   pub cap3 : ample (variant_p 6 3 1) 100000 ≡ answered (3 ∷ 3 ∷ []) 6 3
-  -- "P, budget 3: 33, bound 6."
-  pub budget3 : ample plan_p 3 ≡ stopped 33 6 3
+  -- "P, budget 3: 33, bound 6. Budget 0: bound 2; 1: bound 4; 2: bound 5."; the incumbent is the longest periods, then
+  -- the lowering of (1,1), which none undercuts
+  pub budget3 : ample plan_p 3 ≡ stopped 33 6 3 (2 ∷ 4 ∷ []) 6
+  pub budget0 : ample plan_p 0 ≡ stopped 33 2 0 (6 ∷ 8 ∷ []) 14
+  pub budget1 : ample plan_p 1 ≡ stopped 33 4 1 (2 ∷ 4 ∷ []) 6
+  pub budget2 : ample plan_p 2 ≡ stopped 33 5 2 (2 ∷ 4 ∷ []) 6
   -- "P, work space of 2 numbers, budget 9: 34, bound 4, rounds 2."
-  pub space2 : outcome plan_p 9 2 2 ≡ stopped 34 4 2
+  pub space2 : outcome plan_p 9 2 2 ≡ stopped 34 4 2 (2 ∷ 4 ∷ []) 6
   -- "P with gauge's bounds 1 to 1: 32, place 2."
   pub gauge1 : ample (variant_p 1 1000 1) 100000 ≡ refused (fault 32 2)
-
--- BEST's stop with a work space of so many numbers
-abbrev kept : ℕ → ℕ → ℕ → ℕ → ℕ → List ℕ → Type 0
-kept budget work number bound rounds xs =
-    best_outcome_of (file_fault plan_p) (tasks_of plan_p) budget 2 work
-    ≡ record {
-      answer = record { fault = fault number 0; cost = cost (weights (tasks_of plan_p)) xs; rounds = rounds; bound = bound };
-      periods = xs;
-    }
-
--- P's incumbent: the longest periods, then the lowering of (1,1), which none undercuts
-pub record Kept : Type 0 where
-  pub budget0 : kept 0 16000 33 2 0 (6 ∷ 8 ∷ [])
-  pub budget1 : kept 1 16000 33 4 1 (2 ∷ 4 ∷ [])
-  pub budget3 : kept 3 16000 33 6 3 (2 ∷ 4 ∷ [])
-  pub space2 : kept 9 2 34 4 2 (2 ∷ 4 ∷ [])
 
 -- The time test goes up to 2,000,000 for a task that misses its deadline; left past the deadline it computes.
 module _ (s : List ℕ) where
@@ -97,41 +85,17 @@ module _ (s : List ℕ) where
       let none = fault_if (not (test (period_maxs tasks))) 32 (first_missed (slack_list tasks (period_maxs tasks))) in
       or_else (first_from (alone_fault tasks) (length tasks) 0) none
 
-  abbrev called_by : ℕ → ℕ → ((List ℕ → Bool) → Outcome) → (List ℕ → Bool) → Outcome
-  called_by space work x test =
+  abbrev outcome_by : ℕ → ℕ → ℕ → (List ℕ → Bool) → Outcome
+  outcome_by budget space work test =
       let call = call_fault (file_fault s) tasks space work in
       let infeasible = infeasible_by test in
-      cond (passed call) (cond (passed infeasible) (x test) (refused infeasible)) (refused call)
-
-  abbrev outcome_by : ℕ → ℕ → ℕ → (List ℕ → Bool) → Outcome
-  outcome_by budget space work =
-      called_by space work
-      (λ test. searched (weights tasks) (search_from (rule tasks test) budget (room_of tasks work) 0 tt (start tasks)))
-
-  abbrev best_by : ℕ → ℕ → ℕ → (List ℕ → Bool) → Outcome
-  best_by budget space work = called_by space work (λ test.
-      let e = search_from (incumbent_rule tasks test) budget (room_of tasks work) 0 (period_maxs tasks) (start tasks) in
-      best_searched (weights tasks) e)
+      let x = searched (weights tasks) (search_by tasks test budget (room_of tasks work)) in
+      cond (passed call) (cond (passed infeasible) x (refused infeasible)) (refused call)
 
   outcome-is : (budget space work : ℕ) {x : Outcome} → outcome_by budget space work (in_time tasks) ≡ x
       → outcome s budget space work ≡ x
   unfolding outcome_of infeasible_fault
   outcome-is budget space work = by-early (outcome_by budget space work)
-
-  best-is : (budget space work : ℕ) {x : Outcome} → best_by budget space work (in_time tasks) ≡ x
-      → best_outcome_of (file_fault s) tasks budget space work ≡ x
-  unfolding best_outcome_of infeasible_fault
-  best-is budget space work = by-early (best_by budget space work)
-
-pub incumbents : Kept
-unfolding value_of bytes_of words_of header_bytes canonical first_from file_fault tasks_of demand climb_from busy_period least_of search_from
-    mua children lowering call_fault
-incumbents = record {
-  budget0 = best-is plan_p 0 2 16000 refl;
-  budget1 = best-is plan_p 1 2 16000 refl;
-  budget3 = best-is plan_p 3 2 16000 refl;
-  space2 = best-is plan_p 9 2 2 refl;
-}
 
 -- 32: radio misses its deadline at the longest periods
 abbrev late : List ℕ
@@ -167,16 +131,19 @@ first-late =
 
 pub published : Published
 unfolding value_of bytes_of words_of header_bytes canonical first_from file_fault tasks_of demand climb_from busy_period least_of search_from
-    mua children call_fault
+    mua children lowering call_fault
 published = record {
   answer = outcome-is plan_p 100000 2 16000 refl;
   tie_met = by-early plan_p (λ test. test (3 ∷ 3 ∷ [])) refl;
   tie_cost = refl;
   tie_later = refl;
-  nodes_taken = by-early plan_p (λ test. taken_from (rule (tasks plan_p) test) 100000 tt (start (tasks plan_p))) refl;
+  nodes_taken = by-early plan_p (λ test. taken_from (rule (tasks plan_p) test) 100000 (period_maxs (tasks plan_p)) (start (tasks plan_p))) refl;
   weights13 = outcome-is (variant_p 6 1000 3) 100000 2 16000 refl;
   cap3 = outcome-is (variant_p 6 3 1) 100000 2 16000 refl;
   budget3 = outcome-is plan_p 3 2 16000 refl;
+  budget0 = outcome-is plan_p 0 2 16000 refl;
+  budget1 = outcome-is plan_p 1 2 16000 refl;
+  budget2 = outcome-is plan_p 2 2 16000 refl;
   space2 = outcome-is plan_p 9 2 2 refl;
   gauge1 = outcome-is late 100000 2 16000 by-place ∙ ap (λ (place : ℕ). refused (fault 32 place)) first-late;
 }

@@ -1,5 +1,5 @@
--- The incumbent: that it stays schedulable and within the bounds.
-use mathlib.Core.Path.{◌≡◌}
+-- The incumbent: that it stays schedulable and within the bounds, and with it the rule is lawful.
+use mathlib.Core.Path.{◌≡◌, refl}
 use mathlib.Core.Bool.{Bool, true}
 use mathlib.Core.Logic.{inl, inr}
 use mathlib.Core.List.{List}
@@ -11,31 +11,32 @@ use Rattle.response.specs.Assignments.{less}
 use Rattle.response.proofs.Bounds.{Within, maxs-within}
 use Rattle.boundary.specs.Lowering.{lowering}
 use Rattle.boundary.proofs.Lowered.{lowering-meets}
-use Rattle.optimizer.specs.Search.{improved, incumbent_rule}
+use Rattle.boundary.proofs.Maximal.{mua-fails}
+use Rattle.optimizer.specs.Search.{improved, children, rule}
 use Rattle.optimizer.proofs.Optimal.{Lawful}
-use Rattle.optimizer.proofs.Branching.{Sound, lawful}
+use Rattle.optimizer.proofs.Branching.{Sound, branches-of}
 
-pub record Incumbent (ts : List Task) (test : List ℕ → Bool) (best : List ℕ) : Type 0 where
-  pub within : Within ts best
-  pub met : test best ≡ true
+pub record Incumbent (ts : List Task) (test : List ℕ → Bool) (xs : List ℕ) : Type 0 where
+  pub within : Within ts xs
+  pub met : test xs ≡ true
 
 module _ {ts : List Task} {test : List ℕ → Bool} (s : Sound ts test) (top : test (period_maxs ts) ≡ true) where
   pub incumbent-first : Incumbent ts test (period_maxs ts)
   incumbent-first = record { within = maxs-within ts s.ranged; met = top }
 
-  incumbent-next : (best node : List ℕ) → Incumbent ts test best → Within ts node → Incumbent ts test (improved ts test best node)
-  incumbent-next best node b w =
+  incumbent-next : (xs node : List ℕ) → Incumbent ts test xs → Within ts node → Incumbent ts test (improved ts test xs node)
+  incumbent-next xs node i w =
       let x = lowering test (period_maxs ts) node in
       let m = lowering-meets test w s.ranged top in
-      elim (bool (less (weights ts) x best)) [ inl e ↦ rw e (record { within = m.within; met = m.met }) | inr e ↦ rw e b ]
+      elim (bool (less (weights ts) x xs)) [ inl e ↦ rw e (record { within = m.within; met = m.met }) | inr e ↦ rw e i ]
 
-  -- the rule that carries it answers and branches as CHEAPEST's
-  pub lawful-incumbent : Lawful ts test (incumbent_rule ts test) (Incumbent ts test)
-  lawful-incumbent = let 𝓛 = lawful s top in record {
-    weighs = 𝓛.weighs;
-    ranged = 𝓛.ranged;
+  pub lawful : Lawful ts test (rule ts test) (Incumbent ts test)
+  unfolding children
+  lawful = record {
+    weighs = refl;
+    ranged = s.ranged;
     top = top;
-    answer = λ best node c w e. 𝓛.answer tt node tt w e;
-    carried = λ best node c w e. incumbent-next best node c w;
-    branches = λ best node c w e. 𝓛.branches tt node tt w e;
+    answer = λ xs node c w e. e;
+    carried = λ xs node c w e. incumbent-next xs node c w;
+    branches = λ xs node c w e. branches-of s w (mua-fails test w e);
   }

@@ -1,12 +1,12 @@
--- Demand 3, of the outcome that the definitions give.
-use mathlib.Core.Path.{◌≡◌, sym, ap, ◌∙◌, subst}
+-- Demand 3 and the incumbent, of the outcome that the definitions give.
+use mathlib.Core.Path.{◌≡◌, sym, ap, ◌∙◌}
 use mathlib.Core.Bool.{Bool, true, false, not}
 use mathlib.Core.Logic.{◌⊎◌, inl, inr}
 use mathlib.Core.List.{List}
 use Prim.Native.Nat.{ℕ, suc, ◌+◌, ◌≤◌, ◌<◌}
 use native.Mathlib.Omega.{arith}
 use lib.ListN.{length}
-use borrow.Author.Tests.{eq-eqb, ltb-true, not-false}
+use borrow.Author.Tests.{eq-eqb, ne_eqb, ltb-true, not-false}
 use Rattle.plan.specs.declared.tasks.Task.{Task}
 use Rattle.plan.specs.declared.faults.Fault.{Fault}
 use Rattle.plan.specs.Faults.{first_from}
@@ -14,19 +14,21 @@ use Rattle.plan.specs.Tasks.{task_at, AllValid, period_maxs, weights}
 use Rattle.plan.proofs.Tests.{bool, eq-or-ne, both}
 use Rattle.plan.proofs.Rules.{or-second, or-next, or-here, if-passed, run-some}
 use Rattle.response.specs.Analysis.{own_demand, deadline_at, schedulable}
-use Rattle.response.specs.Assignments.{within_bounds}
+use Rattle.response.specs.Assignments.{cost, within_bounds}
 use Rattle.response.proofs.Bounds.{within-true, maxs-within, true-within}
 use Rattle.response.proofs.Exactness.{own-some, busy-past}
 use Rattle.response.proofs.Slack.{misses-none}
 use Rattle.response.proofs.Sustainable.{schedulable-none, schedulable-covers, covers-schedulable}
 use Rattle.response.proofs.Ranges.{max-at, ranged, sustainable-within}
-use Rattle.optimizer.specs.Rule.{Rule, search_from}
-use Rattle.optimizer.specs.Search.{start}
-use Rattle.optimizer.specs.Claims.{Feasible, Infeasible, IsNone, Settles}
+use Rattle.optimizer.specs.declared.conclusion.Answer.{Answer}
+use Rattle.optimizer.specs.Rule.{End}
+use Rattle.optimizer.specs.Search.{rule, start, search}
+use Rattle.optimizer.specs.Claims.{Feasible, Infeasible, IsNone, IsStop, Settles, Improves}
 use Rattle.optimizer.specs.Promises.{infeasible_alone, alone_fault, none_fault, infeasible_fault, refused, searched}
 use Rattle.optimizer.proofs.Optimal.{Lawful, Optimal}
 use Rattle.optimizer.proofs.Branching.{Sound}
-use Rattle.optimizer.proofs.Guarantees.{search-optimal, search-rounds, search-answers, search-budget}
+use Rattle.optimizer.proofs.Improving.{Incumbent, incumbent-first, lawful}
+use Rattle.optimizer.proofs.Guarantees.{search-optimal, search-rounds, search-answers, search-carried, search-budget}
 
 pub sound : {ts : List Task} → AllValid ts → Sound ts (schedulable ts)
 sound {ts} v = record { ranged = ranged ts v; monotone = λ xs ys w w' m e. sustainable-within ts v w ys m e }
@@ -101,27 +103,65 @@ module _ {ts : List Task} (v : AllValid ts) (budget room : ℕ) (xs : List ℕ) 
         in_budget = omega arith;
       }
 
-  -- searched by a lawful rule
-  pub settles-searched : {R : Rule} {Carried : R.State → Type 0} → Lawful ts (schedulable ts) R Carried
-      → (s : R.State) → Carried s → let e = search_from R budget room 0 s (start ts) in
-      (e.number ≡ 0 → xs ≡ e.periods) → Settles ts budget room (searched (weights ts) e).answer xs
-  settles-searched {R} 𝓛 s c is =
-      let e = search_from R budget room 0 s (start ts) in
-      let o : Optimal ts (schedulable ts) (weights ts) e =
-      subst (λ (ws : List ℕ). Optimal ts (schedulable ts) ws e) 𝓛.weighs (search-optimal 𝓛 c budget room) in
-      let never : IsNone (searched (weights ts) e).answer → ⊥ =
-      λ k. let n = of_two 31 k in elim o.number [ inl z ↦ omega arith | inr z ↦ omega (arith, of_two 33 z) ] in
-      record {
-        numbers = elim o.number [ inl z ↦ inl z | inr z ↦ inr (inr z) ];
-        answered = λ z. let a = o.answered z in (rw (is z) (feasible v e.periods a.0 a.1), rw (is z, eq-eqb e.number 0 z));
-        cheapest = λ z ys f d. elim (o.cheapest z ys f.bounded (met v ys f)) [
-          | inl q ↦ absurd (d (sym q ∙ sym (is z)))
-          | inr q ↦ rw (is z) q
-        ];
-        infeasible = λ k. absurd (never k);
-        feasible = λ f. absurd (f (period_maxs ts) (feasible v (period_maxs ts) (true-within ts _ (maxs-within ts 𝓛.ranged)) 𝓛.top));
-        stopped = λ k ys f. o.stops (of_two 33 k).0 ys f.bounded (met v ys f);
-        unstopped = λ p q ys f. search-answers 𝓛 c budget room p q;
-        few_rounds = search-rounds 𝓛 c budget room;
-        in_budget = search-budget R budget room s (start ts);
-      }
+  pub improves-refused : ((infeasible_fault ts).number ≡ 0 → ⊥) → Improves ts (refused (infeasible_fault ts)).answer xs
+  improves-refused h =
+      let never : IsStop (refused (infeasible_fault ts)).answer → ⊥ =
+      λ k. omega (arith, of_two 33 k, of_two 31 (tasks-break ts v h).0) in
+      record { incumbent = λ k. absurd (never k); bounded = λ k. absurd (never k) }
+
+-- searched
+module _ (ts : List Task) (v : AllValid ts) (budget room : ℕ) (top : schedulable ts (period_maxs ts) ≡ true) (xs : List ℕ) where
+  abbrev e : End (List ℕ)
+  e = search ts budget room
+
+  abbrev a : Answer
+  a = (searched (weights ts) e).answer
+
+  module _ (is : xs ≡ (searched (weights ts) e).periods) where
+    𝓛 : Lawful ts (schedulable ts) (rule ts (schedulable ts)) (Incumbent ts (schedulable ts))
+    𝓛 = lawful (sound v) top
+
+    first : Incumbent ts (schedulable ts) (period_maxs ts)
+    first = incumbent-first (sound v) top
+
+    optimum : Optimal ts (schedulable ts) (weights ts) e
+    optimum = search-optimal 𝓛 first budget room
+
+    the_answer : e.number ≡ 0 → xs ≡ e.periods
+    the_answer z = is ∙ rw (eq-eqb e.number 0 z)
+
+    stopped : IsStop a → 33 ≤ e.number
+    stopped k = (of_two 33 k).0
+
+    pub settles-searched : Settles ts budget room a xs
+    settles-searched =
+        let never : IsNone a → ⊥ =
+        λ k. let n = of_two 31 k in elim optimum.number [ inl z ↦ omega arith | inr z ↦ omega (arith, of_two 33 z) ] in
+        record {
+          numbers = elim optimum.number [ inl z ↦ inl z | inr z ↦ inr (inr z) ];
+          answered = λ z. let o = optimum.answered z in
+              (rw (the_answer z) (feasible v e.periods o.0 o.1), ap (cost (weights ts)) (sym is));
+          cheapest = λ z ys f d. elim (optimum.cheapest z ys f.bounded (met v ys f)) [
+            | inl q ↦ absurd (d (sym q ∙ sym (the_answer z)))
+            | inr q ↦ rw (the_answer z) q
+          ];
+          infeasible = λ k. absurd (never k);
+          feasible = λ f. absurd (f (period_maxs ts) (feasible v (period_maxs ts) (true-within ts _ (maxs-within ts 𝓛.ranged)) top));
+          stopped = λ k ys f. optimum.stops (stopped k) ys f.bounded (met v ys f);
+          unstopped = λ p q ys f. search-answers 𝓛 first budget room p q;
+          few_rounds = search-rounds 𝓛 first budget room;
+          in_budget = search-budget (rule ts (schedulable ts)) budget room (period_maxs ts) (start ts);
+        }
+
+    the_incumbent : IsStop a → Feasible ts xs × (a.cost ≡ cost (weights ts) xs)
+    the_incumbent k =
+        let n : e.number ≡ 0 → ⊥ = λ z. omega (arith, stopped k) in
+        let i = search-carried 𝓛 first budget room in
+        let its : xs ≡ e.state = is ∙ rw (ne_eqb e.number 0 n) in
+        (rw its (feasible v e.state (true-within ts e.state i.within) i.met), ap (cost (weights ts)) (sym is))
+
+    pub improves-searched : Improves ts a xs
+    improves-searched = record {
+      incumbent = the_incumbent;
+      bounded = λ k. let x = the_incumbent k in omega (arith, settles-searched.stopped k xs x.0, x.1);
+    }

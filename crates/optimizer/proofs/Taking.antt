@@ -1,4 +1,4 @@
--- The least node taken off the open ones: what the functions of a round ask of it, and how the round goes by CHEAPEST's rule.
+-- The least node taken off the open ones: what the functions of a round ask of it, and how the round goes, whatever the incumbent.
 use mathlib.Core.Path.{◌≡◌, sym, ap, ◌∙◌}
 use mathlib.Core.Bool.{true, false}
 use mathlib.Core.List.{List}
@@ -46,19 +46,20 @@ module _ {ts : List Task} {old others : OpenNodes} {x : Node} (k : Took ts old o
   pub node-limits : Limits ts p
   node-limits = limits-within ts k.valid node-within k.few
 
-  round_is : {new : OpenNodes} {step : Step} → Goes (rule ts (schedulable ts)) tt old.room listed (open_nodes new) step
-      → Rounds (rule ts (schedulable ts)) tt old new (record { step = step; node = x })
-  round_is g = record {
+  round_is : {new : OpenNodes} {step : Step} → ((i : List ℕ) → Goes (rule ts (schedulable ts)) i old.room listed (open_nodes new) step)
+      → (i : List ℕ) → Rounds (rule ts (schedulable ts)) i old new (record { step = step; node = x })
+  round_is g i = record {
     node = rw (← k.ready.weights) k.taken.least;
     costs = rw (← k.ready.weights) k.taken.costs;
-    goes = g;
+    goes = g i;
   }
 
   least_is : p ≡ least_of (weights ts) listed
   least_is = rw (← k.ready.weights) k.taken.least
 
-  pub round-answered : schedulable ts p ≡ true → Rounds (rule ts (schedulable ts)) tt old others (record { step = Answered; node = x })
-  round-answered e = round_is (rw (← least_is) e)
+  pub round-answered : schedulable ts p ≡ true
+      → (i : List ℕ) → Rounds (rule ts (schedulable ts)) i old others (record { step = Answered; node = x })
+  round-answered e = round_is (λ i. rw (← least_is) e)
 
   module _ (e : schedulable ts p ≡ false) where
     abbrev u : List ℕ
@@ -78,25 +79,28 @@ module _ {ts : List Task} {old others : OpenNodes} {x : Node} (k : Took ts old o
         )
 
     -- the open nodes beside it, with its children that are kept, are those that come next by the rule
-    same_next : SameNodes (expanded (period_maxs ts) p u (open_nodes others)) (next (rule ts (schedulable ts)) tt listed)
+    same_next : (i : List ℕ) → SameNodes (expanded (period_maxs ts) p u (open_nodes others)) (next (rule ts (schedulable ts)) i listed)
     unfolding children
-    same_next =
+    same_next i =
         rw (← least_is)
         (same-expanded (children (schedulable ts) (period_maxs ts) p) (open_nodes others) (without p listed)
         (rw (← k.taken.least) at k.taken.rest))
 
     module _ {new : OpenNodes} {room : Bool} (y : Lists (period_maxs ts) p u others new room) where
-      goes-listed : room ≡ true → Goes (rule ts (schedulable ts)) tt old.room listed (open_nodes new) Listed
-      goes-listed b =
+      goes-listed : room ≡ true → (i : List ℕ) → Goes (rule ts (schedulable ts)) i old.room listed (open_nodes new) Listed
+      goes-listed b i =
           let now = y.listed b in
           let fits = leb-true _ _ (sym y.room ∙ b) in
-          (rw least_is at e, (rw (now, ← k.space.room) fits, λ q. ap (occurrences q) now ∙ same_next q))
+          (rw least_is at e, (rw (now, ← k.space.room) fits, λ q. ap (occurrences q) now ∙ same_next i q))
 
-      goes-full : room ≡ false → Goes (rule ts (schedulable ts)) tt old.room listed (open_nodes new) Full
-      goes-full b = (rw least_is at e, rw (← same_length _ _ same_next, ← k.space.room) (leb-false _ _ (sym y.room ∙ b)))
+      goes-full : room ≡ false → (i : List ℕ) → Goes (rule ts (schedulable ts)) i old.room listed (open_nodes new) Full
+      goes-full b i =
+          (rw least_is at e, rw (← same_length _ _ (same_next i), ← k.space.room) (leb-false _ _ (sym y.room ∙ b)))
 
-      pub round-listed : room ≡ true → Rounds (rule ts (schedulable ts)) tt old new (record { step = Listed; node = x })
+      pub round-listed : room ≡ true
+          → (i : List ℕ) → Rounds (rule ts (schedulable ts)) i old new (record { step = Listed; node = x })
       round-listed b = round_is (goes-listed b)
 
-      pub round-full : room ≡ false → Rounds (rule ts (schedulable ts)) tt old new (record { step = Full; node = x })
+      pub round-full : room ≡ false
+          → (i : List ℕ) → Rounds (rule ts (schedulable ts)) i old new (record { step = Full; node = x })
       round-full b = round_is (goes-full b)

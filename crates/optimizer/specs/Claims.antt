@@ -45,7 +45,7 @@ pub record Settles (ts : List Task) (budget room : ℕ) (a : Answer) (xs : List 
   pub few_rounds : a.rounds ≤ assignment_count ts
   pub in_budget : a.rounds ≤ budget
 
--- BEST's stops, besides: "With 33 and 34 the point's space holds the best and the answer gives its cost."
+-- a stop's incumbent, besides: "With 33 and 34 the point's space holds the best, .. and cost is the best's."
 pub record Improves (ts : List Task) (a : Answer) (xs : List ℕ) : Type 0 where
   -- "the best is on time", and within the bounds
   pub incumbent : IsStop a → Feasible ts xs × (a.cost ≡ cost (weights ts) xs)

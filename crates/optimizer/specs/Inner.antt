@@ -1,5 +1,5 @@
 -- What the inner functions promise each other.
-use Rattle.std.specs.Prelude.{◌≡◌, Bool, true, false, cond, List, [], ◌∷◌, ◌++◌, ℕ, zero, suc, ◌+◌, ◌-◌, ◌*◌, ◌≤◌, ◌<◌, eqb, leb, length, get_or, take, drop, Option, IfSome}
+use Rattle.std.specs.Prelude.{◌≡◌, Bool, true, false, List, [], ◌∷◌, ◌++◌, ℕ, zero, suc, ◌+◌, ◌-◌, ◌*◌, ◌≤◌, ◌<◌, eqb, leb, length, get_or, take, drop}
 use Rattle.plan.specs.declared.tasks.Task.{Task}
 use Rattle.plan.specs.Tasks.{max_tasks, max_weight, period_maxs, weights}
 use Rattle.response.specs.Analysis.{schedulable}
@@ -7,9 +7,9 @@ use Rattle.response.specs.Assignments.{cost, dominates, within_bounds}
 use Rattle.boundary.specs.declared.node.Node.{Node}
 use Rattle.boundary.specs.Inner.{LowersNode}
 use Rattle.optimizer.specs.Nodes.{least_of, without, dominates_some, kept, SameNodes}
-use Rattle.optimizer.specs.Rule.{Rule, End, least, next}
+use Rattle.optimizer.specs.Rule.{Rule, least, next}
 use Rattle.optimizer.specs.Search.{child, children_from, start}
-use Rattle.optimizer.specs.Promises.{Outcome, room_of, searched, written, best_searched, best_written, Answers}
+use Rattle.optimizer.specs.Promises.{Outcome, room_of}
 use Rattle.optimizer.specs.declared.conclusion.Answer.{Answer}
 use Rattle.optimizer.specs.declared.children.Drops.{Drops}
 use Rattle.optimizer.specs.declared.children.Drops.TheVariants.{All, One, Nothing}
@@ -125,43 +125,28 @@ pub record Ready (ts : List Task) (o : OpenNodes) : Type 0 where
   pub weights : o.weights.items ≡ weights ts
   pub bounded : within_bounds ts (least_open o) ≡ true
 
--- the two spaces of a call that passed its own rules; with something feasible, too
-pub record Concludes (ts : List Task) (o w : List ℕ) : Type 0 where
+-- what a search asks: the two spaces of a call that passed its own rules, and schedulable longest periods
+pub record Searchable (ts : List Task) (o w : List ℕ) : Type 0 where
   pub sized : length o ≡ length ts
   pub room : length ts ≤ length w
-
-pub record Searchable (ts : List Task) (o w : List ℕ) : Type 0 where
-  pub given : Concludes ts o w
   pub top : schedulable ts (period_maxs ts) ≡ true
 
--- what a search's end comes to: for CHEAPEST or, where an incumbent is kept, for BEST; and what then is in the periods'
--- space
-abbrev pub ended_by : Bool → List ℕ → End (List ℕ) → Outcome
-ended_by keeps ws e = cond keeps (best_searched ws e) (searched ws e)
-
-abbrev pub written_by : Bool → Outcome → List ℕ → List ℕ
-written_by keeps x o = cond keeps (best_written x o) (written x o)
-
--- the outcome of a search: its answer, and the periods' space o before and after
-pub record Ends (keeps : Bool) (x : Outcome) (o o' : List ℕ) (r : Answer) : Type 0 where
+-- the outcome of a search: its answer, and the periods' space afterwards
+pub record Ends (x : Outcome) (o' : List ℕ) (r : Answer) : Type 0 where
   pub answer : r ≡ x.answer
-  pub periods : o' ≡ cond keeps x.periods (written x o)
-
--- that of a call: the work space w, too
-abbrev pub Leaves : Bool → Outcome → List ℕ → List ℕ → List ℕ → List ℕ → Answer → Type 0
-Leaves keeps x o o' w w' r = Answers x (written_by keeps x o) o' w w' r
+  pub periods : o' ≡ x.periods
 
 -- an incumbent: periods, with their cost
-pub record IsIncumbent (ts : List Task) (best : List ℕ) (x : Node) : Type 0 where
-  pub periods : x.periods.items ≡ best
-  pub costs : x.cost ≡ cost (weights ts) best
+pub record IsIncumbent (ts : List Task) (xs : List ℕ) (x : Node) : Type 0 where
+  pub periods : x.periods.items ≡ xs
+  pub costs : x.cost ≡ cost (weights ts) xs
 
 -- the first one: the longest periods
 abbrev pub IsLongest : List Task → Node → Type 0
 IsLongest ts x = IsIncumbent ts (period_maxs ts) x
 
--- an incumbent, where one is kept, that is to be improved by the lowering of a node
-pub record Improvable (ts : List Task) (incumbent : Option Node) (node : Node) : Type 0 where
+-- an incumbent that is to be improved by the lowering of a node
+pub record Improvable (ts : List Task) (incumbent node : Node) : Type 0 where
   pub lowers : LowersNode ts node.periods.items
-  pub costs : IfSome incumbent (λ x. x.cost ≡ cost (weights ts) x.periods.items)
+  pub costs : incumbent.cost ≡ cost (weights ts) incumbent.periods.items
   pub node-costs : node.cost ≡ cost (weights ts) node.periods.items

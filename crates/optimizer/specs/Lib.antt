@@ -1,4 +1,4 @@
--- The step rule of CHEAPEST (docs/FORMAT.md, "What is looked for"), BEST's incumbent, and what the calls promise.
+-- The step rule of CHEAPEST (docs/FORMAT.md, "What is looked for"), and what its calls promise.
 pub mod Nodes
 pub mod Rule
 pub mod Search

@@ -1,4 +1,4 @@
--- What CHEAPEST and BEST promise, of any bytes, budget and spaces.
+-- What CHEAPEST promises, of any bytes, budget and spaces.
 use Rattle.std.specs.Prelude.{◌≡◌, Bool, true, not, ◌||◌, cond, List, [], ◌∷◌, ℕ, suc, ◌+◌, ◌/◌, eqb, ltb, leb, length, replicate}
 use Rattle.plan.specs.declared.faults.Fault.{Fault}
 use Rattle.plan.specs.declared.tasks.Task.{Task}
@@ -10,8 +10,8 @@ use Rattle.response.specs.Assignments.{cost}
 use Rattle.response.specs.ExactRelease.{WithoutJitter, exact_slack_list, exact_schedulable}
 use Rattle.response.specs.Promises.{space_fault}
 use Rattle.optimizer.specs.declared.conclusion.Answer.{Answer}
-use Rattle.optimizer.specs.Rule.{End, search_from}
-use Rattle.optimizer.specs.Search.{rule, start, search, incumbent_rule, incumbent_search}
+use Rattle.optimizer.specs.Rule.{End}
+use Rattle.optimizer.specs.Search.{search_by, search}
 use Rattle.optimizer.specs.Claims.{Settles, Improves}
 
 -- "24: work space shorter than n. Place 0."
@@ -42,7 +42,7 @@ infeasible_fault ts = or_else (first_from (alone_fault ts) (length ts) 0) (none_
 abbrev pub room_of : List Task → ℕ → ℕ
 room_of ts work = work / length ts
 
--- what a call comes to: its answer, and the periods of number 0
+-- what a call comes to: its answer, and the periods of number 0, 33 and 34
 pub record Outcome : Type 0 where
   pub answer : Answer
   pub periods : List ℕ
@@ -51,15 +51,11 @@ pub record Outcome : Type 0 where
 abbrev pub refused : Fault → Outcome
 refused f = record { answer = record { fault = f; cost = 0; rounds = 0; bound = 0 }; periods = [] }
 
-abbrev pub searched : {S : Type 0} → List ℕ → End S → Outcome
-searched ws e = record {
-  answer = record {
-    fault = fault e.number 0;
-    cost = cond (eqb e.number 0) (cost ws e.periods) 0;
-    rounds = e.rounds;
-    bound = e.bound;
-  };
-  periods = e.periods;
+-- of a search's end: the answer, or "With 33 and 34 .. the best, .. and cost is the best's."
+abbrev pub searched : List ℕ → End (List ℕ) → Outcome
+searched ws e = let xs = cond (eqb e.number 0) e.periods e.state in record {
+  answer = record { fault = fault e.number 0; cost = cost ws xs; rounds = e.rounds; bound = e.bound };
+  periods = xs;
 }
 
 -- of tasks, once the call's own rules have passed: 31 and 32, then what the search comes to
@@ -79,21 +75,23 @@ outcome_of f ts budget space work =
 abbrev pub outcome : List ℕ → ℕ → ℕ → ℕ → Outcome
 outcome s budget space work = outcome_of (file_fault s) (tasks_of s) budget space work
 
--- "The point's space is written only with an answer."
-abbrev pub written : Outcome → List ℕ → List ℕ
-written x o = cond (passed x.answer.fault) x.periods o
-
--- "After an answer, 33 or 34 every number of the work space is 0."; any other number leaves it as it was
+-- an answer, 33 or 34
 abbrev pub is_searched : ℕ → Bool
 is_searched number = eqb number 0 || leb 33 number
 
+-- "The point's space is written only with an answer.", and "With 33 and 34 the point's space holds the best, where 01
+-- left it untouched"; any other number leaves it as it was
+abbrev pub written : Outcome → List ℕ → List ℕ
+written x o = cond (is_searched x.answer.fault.number) x.periods o
+
+-- "After an answer, 33 or 34 every number of the work space is 0."; any other number leaves it as it was
 abbrev pub cleared : Outcome → List ℕ → List ℕ
 cleared x w = cond (is_searched x.answer.fault.number) (replicate (length w) 0) w
 
--- an outcome returned, the periods' space afterwards, which is to hold p, and the work space w before and after
-pub record Answers (x : Outcome) (p o' w w' : List ℕ) (r : Answer) : Type 0 where
+-- an outcome returned, and the two spaces before and afterwards
+pub record Answers (x : Outcome) (o o' w w' : List ℕ) (r : Answer) : Type 0 where
   pub answer : r ≡ x.answer
-  pub periods : o' ≡ p
+  pub periods : o' ≡ written x o
   pub work : w' ≡ cleared x w
 
 -- "plans without late keep their answers": those by the time test of exact release. First 31 and 32
@@ -115,7 +113,7 @@ exact_called f ts space work x =
 
 unfoldable pub exact_outcome_of : Fault → List Task → ℕ → ℕ → ℕ → Outcome
 exact_outcome_of f ts budget space work =
-    let e = search_from (rule ts (exact_schedulable ts)) budget (room_of ts work) 0 tt (start ts) in
+    let e = search_by ts (exact_schedulable ts) budget (room_of ts work) in
     exact_called f ts space work (searched (weights ts) e)
 
 -- an outcome of tasks, and another that it is where none has jitter
@@ -124,48 +122,12 @@ AtExactRelease ts x y = WithoutJitter ts → x ≡ y
 
 -- CHEAPEST, of a file's fault and tasks
 pub record Plans (f : Fault) (ts : List Task) (budget : ℕ) (o o' w w' : List ℕ) (r : Answer) : Type 0 where
-  pub answers : let x = outcome_of f ts budget (length o) (length w) in Answers x (written x o) o' w w' r
+  pub answers : Answers (outcome_of f ts budget (length o) (length w)) o o' w w' r
   -- demand 3
   pub settles : passed (call_fault f ts (length o) (length w)) ≡ true
       → Settles ts budget (room_of ts (length w)) r o'
+  -- and a schedulable assignment with a stop
+  pub improves : passed (call_fault f ts (length o) (length w)) ≡ true → Improves ts r o'
   -- "Exact release in 01 is now the case of late 0."
   pub exact_release : WithoutJitter ts
-      → let x = exact_outcome_of f ts budget (length o) (length w) in Answers x (written x o) o' w w' r
-
--- BEST's outcome of a search's end: with a stop "the point's space holds the best and the answer gives its cost"
-abbrev pub best_searched : List ℕ → End (List ℕ) → Outcome
-best_searched ws e = let xs = cond (eqb e.number 0) e.periods e.state in record {
-  answer = record { fault = fault e.number 0; cost = cost ws xs; rounds = e.rounds; bound = e.bound };
-  periods = xs;
-}
-
-unfoldable pub best_outcome_of : Fault → List Task → ℕ → ℕ → ℕ → Outcome
-best_outcome_of f ts budget space work =
-    called f ts space work (best_searched (weights ts) (incumbent_search ts budget (room_of ts work)))
-
-unfoldable pub exact_best_outcome_of : Fault → List Task → ℕ → ℕ → ℕ → Outcome
-exact_best_outcome_of f ts budget space work =
-    let R = incumbent_rule ts (exact_schedulable ts) in
-    let e = search_from R budget (room_of ts work) 0 (period_maxs ts) (start ts) in
-    exact_called f ts space work (best_searched (weights ts) e)
-
--- the periods' space is written with an answer, 33 and 34
-abbrev pub best_written : Outcome → List ℕ → List ℕ
-best_written x o = cond (is_searched x.answer.fault.number) x.periods o
-
--- the same number, place, rounds and bound
-pub record SameCourse (a b : Answer) : Type 0 where
-  pub fault : a.fault ≡ b.fault
-  pub rounds : a.rounds ≡ b.rounds
-  pub bound : a.bound ≡ b.bound
-
--- BEST, of a file's fault and tasks
-pub record BestPlans (f : Fault) (ts : List Task) (budget : ℕ) (o o' w w' : List ℕ) (r : Answer) : Type 0 where
-  pub answers : let x = best_outcome_of f ts budget (length o) (length w) in Answers x (best_written x o) o' w w' r
-  -- demand 3, and a feasible assignment with a stop
-  pub settles : passed (call_fault f ts (length o) (length w)) ≡ true
-      → Settles ts budget (room_of ts (length w)) r o' × Improves ts r o'
-  -- "an operation beside CHEAPEST": what CHEAPEST's answer says to the same call, but for the cost of a stop
-  pub as_cheapest : SameCourse r (outcome_of f ts budget (length o) (length w)).answer
-  pub exact_release : WithoutJitter ts
-      → let x = exact_best_outcome_of f ts budget (length o) (length w) in Answers x (best_written x o) o' w w' r
+      → Answers (exact_outcome_of f ts budget (length o) (length w)) o o' w w' r

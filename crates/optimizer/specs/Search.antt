@@ -1,4 +1,4 @@
--- CHEAPEST's rule: the children of a node, and the search; BEST's, which carries an incumbent along.
+-- CHEAPEST's rule: the children of a node, the incumbent that rounds carry along, and the search.
 use Rattle.std.specs.Prelude.{Bool, true, false, cond, List, [], ◌∷◌, ℕ, zero, suc, ltb, length, get_or, set}
 use Rattle.plan.specs.declared.tasks.Task.{Task}
 use Rattle.plan.specs.Tasks.{period_mins, period_maxs, weights}
@@ -23,40 +23,29 @@ children_from (suc left) maxs node u i =
 unfoldable pub children : (List ℕ → Bool) → List ℕ → List ℕ → List (List ℕ)
 children test maxs node = children_from (length node) maxs node (mua test maxs node) 0
 
--- of tasks, under a time test; nothing is carried along
+-- the incumbent (the requirement's best) after a round whose node is unschedulable: "The result becomes the best if it
+-- is less"
+abbrev pub improved : List Task → (List ℕ → Bool) → List ℕ → List ℕ → List ℕ
+improved ts test incumbent node =
+    let x = lowering test (period_maxs ts) node in cond (less (weights ts) x incumbent) x incumbent
+
+-- of tasks, under a time test, with the incumbent as its state: neither what is answered nor a child reads it
 abbrev pub rule : List Task → (List ℕ → Bool) → Rule
 rule ts test = record {
-  State = Unit {0};
+  State = List ℕ;
   weights = weights ts;
-  answers = λ s node. test node;
-  after = λ s node. s;
-  children = λ s node. children test (period_maxs ts) node;
+  answers = λ incumbent node. test node;
+  after = improved ts test;
+  children = λ incumbent node. children test (period_maxs ts) node;
 }
 
 -- "The list starts with the point of all low bounds."
 abbrev pub start : List Task → List (List ℕ)
 start ts = period_mins ts ∷ []
 
-abbrev pub search : List Task → ℕ → ℕ → End (Unit {0})
-search ts budget room = search_from (rule ts (schedulable ts)) budget room 0 tt (start ts)
+-- the incumbent "starts as the point of all high bounds"
+abbrev pub search_by : List Task → (List ℕ → Bool) → ℕ → ℕ → End (List ℕ)
+search_by ts test budget room = search_from (rule ts test) budget room 0 (period_maxs ts) (start ts)
 
--- BEST's incumbent (the requirement's best) after a round whose node is unschedulable: "The result becomes the best if
--- it is less"
-abbrev pub improved : List Task → (List ℕ → Bool) → List ℕ → List ℕ → List ℕ
-improved ts test best node =
-    let x = lowering test (period_maxs ts) node in cond (less (weights ts) x best) x best
-
--- answers and children are CHEAPEST's
-abbrev pub incumbent_rule : List Task → (List ℕ → Bool) → Rule
-incumbent_rule ts test = let R = rule ts test in record {
-  State = List ℕ;
-  weights = R.weights;
-  answers = λ best node. R.answers tt node;
-  after = improved ts test;
-  children = λ best node. R.children tt node;
-}
-
--- "It starts as the point of all high bounds."
-abbrev pub incumbent_search : List Task → ℕ → ℕ → End (List ℕ)
-incumbent_search ts budget room =
-    search_from (incumbent_rule ts (schedulable ts)) budget room 0 (period_maxs ts) (start ts)
+abbrev pub search : List Task → ℕ → ℕ → End (List ℕ)
+search ts budget room = search_by ts (schedulable ts) budget room

@@ -8,8 +8,7 @@ pub enum Stop {
     Room,
 }
 
-// How a search ends: with the cost of an answer, or at a stop, with its bound and, where an incumbent is kept, that
-// one's cost.
+// How a search ends: with the cost of an answer, or at a stop, with the incumbent's cost and the bound.
 #[derive(Clone, Copy, Debug, PartialEq, Eq)]
 pub enum Conclusion {
     Answered {
@@ -18,7 +17,7 @@ pub enum Conclusion {
     },
     Stopped {
         stop: Stop,
-        incumbent: Option<u64>,
+        cost: u64,
         rounds: u64,
         bound: u64,
     },
@@ -64,12 +63,12 @@ impl From<Conclusion> for Answer {
             },
             Conclusion::Stopped {
                 stop,
-                incumbent,
+                cost,
                 rounds,
                 bound,
             } => Answer {
                 fault: stop.into(),
-                cost: incumbent.unwrap_or(0),
+                cost,
                 rounds,
                 bound,
             },

@@ -1,7 +1,7 @@
 use plan::{Fault, ReadError};
 
-// Why CHEAPEST and BEST refuse a call: its file, the length of one of the two spaces, the first task, counted from 1,
-// that misses its deadline alone, or the first that misses it at the longest periods.
+// Why CHEAPEST refuses a call: its file, the length of one of the two spaces, the first task, counted from 1, that
+// misses its deadline alone, or the first that misses it at the longest periods.
 #[derive(Clone, Copy, Debug, PartialEq, Eq)]
 pub enum CallError {
     Read(ReadError),

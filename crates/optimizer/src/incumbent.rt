@@ -1,5 +1,3 @@
-ghost use Rattle.std.specs.Prelude.{◌≡◌, length, is_some, IfSome};
-ghost use Rattle.std.specs.Option.{option_map, option_map_or};
 ghost use Rattle.plan.specs.Promises.{plan_tasks};
 ghost use Rattle.response.specs.Analysis.{schedulable};
 ghost use Rattle.optimizer.specs.Search.{improved};
@@ -18,29 +16,19 @@ pub fn longest(plan: &Plan) -> Node
     Node { cost, periods }
 }
 
-// The lowering of an unschedulable node becomes the incumbent, where one is kept, if it is less.
-pub fn improve(plan: &Plan, incumbent: &mut Option<Node>, node: &Node)
+// The lowering of an unschedulable node becomes the incumbent if it is less.
+pub fn improve(plan: &Plan, incumbent: &mut Node, node: &Node)
     requires { Improvable (plan_tasks plan.now) incumbent.old node.now }
-    ensures keeps { is_some incumbent.new ≡ is_some incumbent.old }
-    ensures improved { let ts = plan_tasks plan.now in
-        IfSome incumbent.old (λ best. IfSome incumbent.new
-        (IsIncumbent ts (improved ts (schedulable ts) best.periods.items node.now.periods.items))) }
+    ensures { let ts = plan_tasks plan.now in
+        IsIncumbent ts (improved ts (schedulable ts) incumbent.old.periods.items node.now.periods.items) incumbent.new }
 {
-    if let Some(best) = incumbent {
-        let lowered = lowering_of(plan, node, best.cost);
-        if is_less(lowered.cost, best.cost, &lowered.periods, &best.periods) {
-            *best = lowered;
-        }
+    let lowered = lowering_of(plan, node, incumbent.cost);
+    if is_less(
+        lowered.cost,
+        incumbent.cost,
+        &lowered.periods,
+        &incumbent.periods,
+    ) {
+        *incumbent = lowered;
     }
-}
-
-// The incumbent's periods go into their space, where one is kept. Its cost.
-pub fn write(incumbent: Option<Node>, periods: &mut [u32]) -> Option<u64>
-    requires { IfSome incumbent (λ best. length periods.old ≡ length best.periods.items) }
-    ensures cost { result ≡ option_map (λ best. best.cost) incumbent }
-    ensures written { periods.new ≡ option_map_or (λ best. best.periods.items) incumbent periods.old }
-{
-    let best = incumbent?;
-    periods.copy_from_slice(&best.periods);
-    Some(best.cost)
 }

@@ -1,6 +1,6 @@
 #![tactic(auto)]
 
-// CHEAPEST and BEST: the step rule over a lent work space.
+// CHEAPEST: the step rule over a lent work space.
 mod errors; // errors.rt: why a call is refused
 mod conclusion; // conclusion.rt: how a search ends, and in numbers
 mod order; // order.rt: cost and order of period assignments
@@ -9,18 +9,15 @@ mod incumbent; // incumbent.rt: the best of the nodes' lowerings so far
 mod children; // children.rt: which children of a node are dropped, and the listing of the others
 mod round; // round.rt: one round
 mod search; // search.rt: the rounds
-mod call; // call.rt: the rules of a call, then the search
+mod call; // call.rt: the rules of a call
 mod cheapest; // cheapest.rt: CHEAPEST
-mod best; // best.rt: BEST
 
-// CHEAPEST and BEST
-pub use best::best_periods;
+// CHEAPEST
 pub use cheapest::cheapest_periods;
 pub use conclusion::{Answer, Conclusion, Stop};
 pub use errors::CallError;
 
 // for the layers above
-pub use best::best_of;
 pub use cheapest::cheapest_of;
 
 // The numbers of the work space that DESK, the listing and their like give to a call.

@@ -1,3 +1,4 @@
+ghost use Rattle.std.specs.Prelude.{List, ℕ};
 ghost use Rattle.plan.specs.Promises.{plan_tasks};
 ghost use Rattle.response.specs.Analysis.{schedulable};
 ghost use Rattle.optimizer.specs.Search.{rule};
@@ -24,11 +25,12 @@ pub struct Round {
     pub node: Node,
 }
 
-// One round: the least node is the answer, or its children are listed.
+// One round, in which the incumbent has no part: the least node is the answer, or its children are listed.
 pub fn run_round(plan: &Plan, nodes: &mut OpenNodes) -> Round
     requires { Ready (plan_tasks plan.now) nodes.old }
     ensures same { SameSpace nodes.old nodes.new }
-    ensures rounds { let ts = plan_tasks plan.now in Rounds (rule ts (schedulable ts)) tt nodes.old nodes.new result }
+    ensures rounds { let ts = plan_tasks plan.now in
+        (incumbent : List ℕ) → Rounds (rule ts (schedulable ts)) incumbent nodes.old nodes.new result }
 {
     let node = nodes.take_least();
     let assignment = Assignment {

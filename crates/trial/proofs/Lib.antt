@@ -1,2 +1,0 @@
--- Laws of BEST in a block.
-mod ExactRelease  -- plans without jitter
