@@ -1,12 +1,12 @@
 -- The answer block: what it carries, its bytes, and how they are read back.
-use Rattle.std.specs.Prelude.{cond, List, [], ◌++◌, ℕ, ◌+◌, ◌*◌, length, drop, replicate}
+use Rattle.std.specs.Prelude.{List, [], ◌++◌, ℕ, ◌+◌, ◌*◌, length, drop, replicate}
 use Rattle.plan.specs.Lists.{tabulate}
-use Rattle.plan.specs.Faults.{fault, passed}
+use Rattle.plan.specs.Faults.{fault}
 use Rattle.plan.specs.Words.{bytes_of, words_of, word}
 use Rattle.plan.specs.Tasks.{max_tasks}
 use Rattle.optimizer.specs.declared.conclusion.Answer.{Answer}
 use Rattle.desk.specs.declared.block.Carried.{Carried}
-use Rattle.optimizer.specs.Promises.{Outcome}
+use Rattle.optimizer.specs.Promises.{Outcome, written}
 
 -- "a block of exactly 100 bytes"; the periods' offset in it
 abbrev pub block_size : ℕ
@@ -52,10 +52,7 @@ no_periods = replicate max_tasks 0
 abbrev pub padded : List ℕ → List ℕ
 padded xs = xs ++ drop (length xs) no_periods
 
--- an outcome of CHEAPEST, with n: "all 0 unless answered"
+-- an outcome of CHEAPEST, with n: "all 0 unless answered", but at a stop "DESK's block shows the best's periods and cost
+-- too"
 abbrev pub carrying : Outcome → ℕ → Carried
-carrying o n = record {
-  answer = o.answer;
-  tasks = n;
-  periods = padded (cond (passed o.answer.fault) o.periods []);
-}
+carrying o n = record { answer = o.answer; tasks = n; periods = padded (written o []) }
