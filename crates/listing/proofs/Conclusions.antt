@@ -8,8 +8,7 @@ use native.Mathlib.Omega.{arith}
 use lib.ListN.{length}
 use borrow.Author.Tests.{eq-eqb, ne_eqb, lt-ltb}
 use Rattle.std.specs.List.{AllZip}
-use Rattle.std.specs.Prelude.{Ok, Err, Option}
-use Rattle.std.proofs.lemmas.Bool.{lt-leb}
+use Rattle.std.specs.Prelude.{Ok, Err}
 use Rattle.std.proofs.lemmas.Slice.Zip.{AllZip-long}
 use Rattle.plan.specs.declared.errors.ReadError.{ReadError}
 use Rattle.plan.specs.declared.record.Plan.{Plan}
@@ -30,12 +29,11 @@ use Rattle.optimizer.specs.declared.conclusion.Conclusion.TheVariants.{Answered,
 use Rattle.optimizer.specs.declared.conclusion.Stop.{Stop}
 use Rattle.optimizer.specs.declared.conclusion.Stop.TheVariants.{Budget, Room}
 use Rattle.optimizer.specs.Answers.{call_error_fault, stop_fault, answer_of}
-use Rattle.optimizer.specs.Promises.{Outcome, refused, outcome_of, outcome, call_fault, cleared, written}
-use Rattle.optimizer.specs.Promises.{Answers, Plans}
+use Rattle.optimizer.specs.Promises.{Outcome, refused, outcome_of, outcome, call_fault, cleared, Answers, Plans}
 use Rattle.optimizer.proofs.Numbers.{call-error-numbers}
-use Rattle.listing.specs.Text.{line, decimal, cost_word, rounds_word, bound_word, refusal_fields, task_lines}
+use Rattle.optimizer.proofs.Concluding.{unsearched, unread}
+use Rattle.listing.specs.Text.{line, decimal, cost_word, rounds_word, refusal_fields, stop_fields, task_lines}
 use Rattle.listing.specs.Text.{listing_for, listing_of}
-use Rattle.plan.proofs.Numbers.{read-error-numbers}
 
 refusal-text : (e : CallError) (s : List ℕ) (x : Outcome) → call_error_fault e ≡ x.answer.fault
     → line (refusal_fields (call_error_fault e)) ≡ listing_for s x
@@ -47,21 +45,14 @@ refusal-text e s x h =
 
 -- a file that is refused
 module _ (e : ReadError) (s : List ℕ) (h : read_error_fault e ≡ file_fault s) (budget : ℕ) (w : List ℕ) where
-  abbrev number : ℕ
-  number = (read_error_fault e).number
-
-  some : number ≡ 0 → ⊥
-  some z = omega (arith, read-error-numbers e)
-
-  unread : outcome s budget (length (tasks_of s)) (length w) ≡ refused (read_error_fault e)
-  unfolding outcome_of call_fault
-  unread = rw (← h, ne_eqb number 0 some, ne_eqb number 0 some)
+  refuses : outcome s budget (length (tasks_of s)) (length w) ≡ refused (read_error_fault e)
+  refuses = unread e s h budget (length (tasks_of s)) (length w)
 
   pub unread-listed : line (refusal_fields (read_error_fault e)) ≡ listing_of s budget (length w)
-  unread-listed = refusal-text (Read e) s _ (sym (ap (λ x. x.answer.fault) unread))
+  unread-listed = refusal-text (Read e) s _ (sym (ap (λ x. x.answer.fault) refuses))
 
   pub unread-work : w ≡ cleared (outcome s budget (length (tasks_of s)) (length w)) w
-  unread-work = rw (unread, ne_eqb number 0 some, lt-leb 33 number (omega (arith, read-error-numbers e)))
+  unread-work = rw (refuses, unsearched (Read e))
 
 -- CHEAPEST of a plan that was loaded, with a space of a number for each task
 module _ {s : List ℕ} {plan : Plan} (l : Loads s plan) (R : Task → ℕ → Type 0) {ns o : List ℕ}
@@ -73,7 +64,7 @@ module _ {s : List ℕ} {plan : Plan} (l : Loads s plan) (R : Task → ℕ → T
   abbrev x : Outcome
   x = outcome s budget (length (tasks_of s)) (length w)
 
-  answers : Answers x (written x o) o' w w' r
+  answers : Answers x o o' w w' r
   answers = rw (ap length v ∙ AllZip-long R _ _ z ∙ ap length l.tasks) at plans.answers
 
   pub work-left : w' ≡ cleared x w
@@ -83,13 +74,11 @@ module _ {s : List ℕ} {plan : Plan} (l : Loads s plan) (R : Task → ℕ → T
       → line (refusal_fields (call_error_fault e)) ≡ listing_for s x
   refusal-listed e is = refusal-text e s x (ap (λ a. a.fault) (sym is ∙ answers.answer))
 
-  pub stop-listed : (stop : Stop) (incumbent : Option ℕ) (rounds bound : ℕ)
-      → r ≡ answer_of (Ok (Stopped stop incumbent rounds bound))
-      → line (refusal_fields (stop_fault stop) ++ (bound_word ∷ decimal bound ∷ rounds_word ∷ decimal rounds ∷ []))
-      ≡ listing_for s x
+  pub stop-listed : (stop : Stop) (cost rounds bound : ℕ) → r ≡ answer_of (Ok (Stopped stop cost rounds bound))
+      → line (stop_fields (stop_fault stop) bound rounds cost) ≡ listing_for s x
   unfolding listing_for
-  stop-listed Budget incumbent rounds bound is = rw (← answers.answer, is)
-  stop-listed Room incumbent rounds bound is = rw (← answers.answer, is)
+  stop-listed Budget cost rounds bound is = rw (← answers.answer, is)
+  stop-listed Room cost rounds bound is = rw (← answers.answer, is)
 
   module _ (cost rounds : ℕ) (is : r ≡ answer_of (Ok (Answered cost rounds))) where
     called : passed (call_fault (file_fault s) (tasks_of s) (length o) (length w)) ≡ true

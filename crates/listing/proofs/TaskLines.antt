@@ -1,8 +1,8 @@
 -- The lines of the tasks.
-use mathlib.Core.Path.{◌≡◌, refl, sym, ◌∙◌}
+use mathlib.Core.Path.{◌≡◌, refl, ◌∙◌}
 use mathlib.Core.Logic.{inl, inr}
 use mathlib.Core.List.{List, [], ◌∷◌, ◌++◌}
-use Prim.Native.Nat.{ℕ, zero, suc, ◌+◌, ◌-◌, ◌≤◌, ◌<◌}
+use Prim.Native.Nat.{ℕ, zero, suc, ◌+◌, ◌-◌, ◌≤◌}
 use native.Mathlib.Omega.{arith}
 use native.Mathlib.Nat.{le_trans}
 use native.Mathlib.Numerals.{add-one}
@@ -12,11 +12,11 @@ use Rattle.std.specs.Prelude.{unwrap_or}
 use Rattle.plan.specs.declared.record.Plan.{Plan}
 use Rattle.plan.specs.Layout.{name_width}
 use Rattle.plan.specs.Names.{name_field, without_zeros}
-use Rattle.plan.specs.Files.{tasks_of, is_named, name_of}
+use Rattle.plan.specs.Files.{is_named, name_of}
 use Rattle.plan.specs.Promises.{plan_tasks, Loads, Names}
 use Rattle.plan.proofs.Tests.{bool}
 use Rattle.response.specs.Analysis.{response_time}
-use Rattle.response.specs.Inner.{Limits, some_time}
+use Rattle.response.specs.Inner.{some_time}
 use Rattle.listing.specs.Text.{line, decimal, task_lines}
 
 without_zeros-le : (bs : List ℕ) → length (without_zeros bs) ≤ length bs

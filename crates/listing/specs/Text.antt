@@ -25,7 +25,7 @@ fields (f ∷ g ∷ fs) end = f ++ (32 ∷ fields (g ∷ fs) end)
 abbrev pub line : List (List ℕ) → List ℕ
 line fs = fields fs 10
 
--- `cost`, `rounds`, `refused`, `bound`
+-- `cost`, `rounds`, `refused`, `bound`, `best`
 abbrev pub cost_word : List ℕ
 cost_word = 99 ∷ 111 ∷ 115 ∷ 116 ∷ []
 
@@ -37,6 +37,9 @@ refused_word = 114 ∷ 101 ∷ 102 ∷ 117 ∷ 115 ∷ 101 ∷ 100 ∷ []
 
 abbrev pub bound_word : List ℕ
 bound_word = 98 ∷ 111 ∷ 117 ∷ 110 ∷ 100 ∷ []
+
+abbrev pub best_word : List ℕ
+best_word = 98 ∷ 101 ∷ 115 ∷ 116 ∷ []
 
 -- "one line a job, in order: name, period, response time": of task i, counted from 0, whose name is that of
 -- number i + 1
@@ -62,12 +65,15 @@ refusal_fields f = refused_word ∷ decimal f.number ∷ decimal f.place ∷ []
 abbrev pub refusal_text : Outcome → List ℕ
 refusal_text o = line (refusal_fields o.answer.fault)
 
--- "33 and 34 add to it `bound`, its number, `rounds`, its number"
+-- "33 and 34 add to it `bound`, its number, `rounds`, its number", and "`best` and that cost": of a stop's number,
+-- bound, rounds and cost
+abbrev pub stop_fields : Fault → ℕ → ℕ → ℕ → List (List ℕ)
+stop_fields f bound rounds cost =
+    refusal_fields f
+    ++ (bound_word ∷ decimal bound ∷ rounds_word ∷ decimal rounds ∷ best_word ∷ decimal cost ∷ [])
+
 abbrev pub stop_text : Outcome → List ℕ
-stop_text o =
-    line
-    (refusal_fields o.answer.fault
-    ++ (bound_word ∷ decimal o.answer.bound ∷ rounds_word ∷ decimal o.answer.rounds ∷ []))
+stop_text o = let a = o.answer in line (stop_fields a.fault a.bound a.rounds a.cost)
 
 unfoldable pub listing_for : List ℕ → Outcome → List ℕ
 listing_for s o =

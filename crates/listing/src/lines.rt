@@ -3,8 +3,7 @@ ghost use Rattle.plan.specs.Tasks.{max_tasks};
 ghost use Rattle.plan.specs.Promises.{plan_tasks};
 ghost use Rattle.response.specs.Inner.{Limits};
 ghost use Rattle.optimizer.specs.Answers.{stop_fault};
-ghost use Rattle.listing.specs.Text.{decimal, fields, line, refusal_fields, task_lines};
-ghost use Rattle.listing.specs.Text.{cost_word, bound_word, rounds_word};
+ghost use Rattle.listing.specs.Text.{decimal, fields, line, cost_word, rounds_word, refusal_fields, stop_fields, task_lines};
 ghost use Rattle.listing.specs.Inner.{line_size, listing_size};
 
 use super::writer::{Listing, put_labelled, put_number};
@@ -30,14 +29,14 @@ pub fn list_refusal(fault: Fault) -> Listing
     refusal(fault, b'\n')
 }
 
-// A stop's line, with its bound and its rounds.
-pub fn list_stop(stop: Stop, bound: u64, rounds: u64) -> Listing
-    ensures { result.items ≡ line
-        (refusal_fields (stop_fault stop) ++ (bound_word ∷ decimal bound ∷ rounds_word ∷ decimal rounds ∷ [])) }
+// A stop's line, with its bound, its rounds and the incumbent's cost.
+pub fn list_stop(stop: Stop, bound: u64, rounds: u64, cost: u64) -> Listing
+    ensures { result.items ≡ line (stop_fields (stop_fault stop) bound rounds cost) }
 {
     let mut text = refusal(stop.into(), b' ');
     put_labelled(&mut text, b"bound", bound, b' ');
-    put_labelled(&mut text, b"rounds", rounds, b'\n');
+    put_labelled(&mut text, b"rounds", rounds, b' ');
+    put_labelled(&mut text, b"best", cost, b'\n');
     text
 }
 

@@ -29,10 +29,10 @@ fn list_conclusion(file: &[u8], budget: u64, work: &mut [u32]) -> Result<Listing
         Conclusion::Answered { cost, rounds } => Ok(list_answer(&loaded, periods, cost, rounds)),
         Conclusion::Stopped {
             stop,
+            cost,
             rounds,
             bound,
-            ..
-        } => Ok(list_stop(stop, bound, rounds)),
+        } => Ok(list_stop(stop, bound, rounds, cost)),
     }
 }
 
