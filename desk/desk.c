@@ -18,11 +18,12 @@ static const char USAGE[] =
     "usage: desk PLAN [BUDGET]\n"
     "       desk --help\n"
     "Finds the cheapest periods at which every job of a plan file is on time.\n"
+    "At a stop the best timetable found is listed, and no timetable on time costs less than the bound.\n"
     "PLAN is the file's path, or - for standard input.\n"
     "BUDGET is the most rounds of the search, 0 to 18446744073709551615; 100000 if not given.\n"
     "All times are ticks of 100 microseconds.\n"
-    "Exit status: 0 an answer; 1 a stop, where no timetable on time costs less than the bound;\n"
-    "2 a refusal; 3 wrong arguments, or something that cannot be read or written.\n";
+    "Exit status: 0 an answer; 1 a stop; 2 a refusal; 3 wrong arguments, or something that cannot\n"
+    "be read or written.\n";
 
 struct meaning {
     uint32_t number;
@@ -104,19 +105,40 @@ static const char *name_of(const uint8_t *file, uint32_t job)
     return (const char *)file + desk_u32(file + 8) + 16 * (job - 1);
 }
 
+static void tell_jobs(const uint8_t *file, const uint8_t *block)
+{
+    for (uint32_t job = 1; job <= desk_n_of(block); job++)
+        printf("job %" PRIu32 ", %.16s: period %" PRIu32 "\n", job, name_of(file, job), desk_period_of(block, job));
+}
+
 static int tell_answer(const uint8_t *file, const uint8_t *block)
 {
     printf("answer: cost %" PRIu64 ", rounds %" PRIu64 "; periods in ticks of 100 microseconds\n",
            desk_cost_of(block), desk_rounds_of(block));
-    for (uint32_t job = 1; job <= desk_n_of(block); job++)
-        printf("job %" PRIu32 ", %.16s: period %" PRIu32 "\n", job, name_of(file, job), desk_period_of(block, job));
+    tell_jobs(file, block);
     return ANSWER;
 }
 
-static int tell_stop(const uint8_t *block, const char *text, const char *hint)
+/* By how much a stop's cost can be above the optimum, which is no less than the bound:
+ * rounded up, so that it is never said too low. A cost is 16,000,000,000 at most: a
+ * thousand times that fits 64 bits. */
+static void tell_excess(uint64_t cost, uint64_t bound)
 {
-    printf("stop %" PRIu32 ": %s; bound %" PRIu64 ", rounds %" PRIu64 "\n", desk_number_of(block), text,
-           desk_bound_of(block), desk_rounds_of(block));
+    if (bound == 0)
+        return;
+    uint64_t tenths = ((cost - bound) * 1000 + bound - 1) / bound;
+    printf("the cost is at most %" PRIu64 ".%" PRIu64 " %% above the cheapest timetable's\n", tenths / 10, tenths % 10);
+}
+
+static int tell_stop(const uint8_t *file, const uint8_t *block, const char *text, const char *hint)
+{
+    uint64_t cost = desk_cost_of(block), bound = desk_bound_of(block);
+
+    printf("stop %" PRIu32 ": %s; cost %" PRIu64 ", bound %" PRIu64 ", rounds %" PRIu64
+           "; periods in ticks of 100 microseconds\n",
+           desk_number_of(block), text, cost, bound, desk_rounds_of(block));
+    tell_jobs(file, block);
+    tell_excess(cost, bound);
     printf("hint: %s\n", hint);
     return STOP;
 }
@@ -140,9 +162,10 @@ static int tell(const uint8_t *file, const uint8_t *block)
     case DESK_ANSWERED:
         return tell_answer(file, block);
     case DESK_BUDGET:
-        return tell_stop(block, meaning->text, "try a larger budget, or narrower bounds of some jobs");
+        return tell_stop(file, block, meaning->text, "try a larger budget, or narrower bounds of some jobs");
     case DESK_SPACE:
-        return tell_stop(block, meaning->text, "try narrower bounds of some jobs; a larger budget stops here, too");
+        return tell_stop(file, block, meaning->text,
+                         "try narrower bounds of some jobs; a larger budget stops here, too");
     default:
         return tell_refusal(block, meaning);
     }

@@ -45,7 +45,8 @@ enum desk_number {
     DESK_LONE = 31,         /* work, hold and late above the greatest period or the cap; place: first such task */
     DESK_NONE = 32,         /* late even at all greatest periods; place: first late task */
 
-    /* Stopped: no schedulable periods cost less than the bound. Place 0. */
+    /* Stopped: the periods are the incumbent's, the cheapest schedulable ones found;
+     * no schedulable periods cost less than the bound. Place 0. */
     DESK_BUDGET = 33,       /* the budget of rounds is spent */
     DESK_SPACE = 34         /* the work space of 16,000 numbers is full */
 };
@@ -60,11 +61,11 @@ enum desk_size {
 enum desk_offset {
     DESK_AT_NUMBER = 0,     /* 4 bytes */
     DESK_AT_PLACE = 4,      /* 4 */
-    DESK_AT_COST = 8,       /* 8; 0 unless answered */
+    DESK_AT_COST = 8,       /* 8; 0 unless answered or stopped */
     DESK_AT_ROUNDS = 16,    /* 8 */
     DESK_AT_BOUND = 24,     /* 8; 0 unless stopped */
     DESK_AT_N = 32,         /* 4; 0 if the file was refused */
-    DESK_AT_PERIODS = 36    /* 16 of 4; unused ones 0, all 0 unless answered */
+    DESK_AT_PERIODS = 36    /* 16 of 4; unused ones 0, all 0 unless answered or stopped */
 };
 
 /* By bytes: right on any machine and at any alignment. No casts: C++ would warn of
