@@ -1,8 +1,7 @@
-/* Times desk_call and best_call against planner.c in one run: the calls of a table
- * interleaved, the best of several, processor time. First all must give the same
- * block. planner.c comes in two ways to a maximal unschedulable assignment,
- * "bisect" and "jumps" (the product's), and as "best" (by jumps), each from gcc and,
- * where it is installed, from clang.
+/* Times desk_call against planner.c in one run: the calls interleaved, the least of
+ * several, processor time. First all must give the same block. planner.c comes in two
+ * ways to a maximal unschedulable assignment and to a lowering, "bisect" and "jumps"
+ * (the product's), each from gcc and, where it is installed, from clang.
  * Random plans: work 1 to 100, weight 1 to 1,000, caps 1,000,000; "wide" bounds
  * from the work to 5 times the sum of all work, "narrow" ones from 0.9 to 2
  * times that sum; docs/BENCHMARKS.md has where they come from. */
@@ -19,57 +18,32 @@
 
 typedef uint32_t planner(const uint8_t *file, size_t file_len, uint8_t *block, size_t block_len, uint64_t budget);
 
-/* desk_call with BEST in place of CHEAPEST. */
-planner best_call;
-
 /* planner.c compiled once more; reference_call is gcc's bisection. */
-planner gcc_jumps_call, gcc_best_call;
+planner gcc_jumps_call;
 #ifdef WITH_CLANG
-planner clang_bisect_call, clang_jumps_call, clang_best_call;
+planner clang_bisect_call, clang_jumps_call;
 #endif
 
 enum { SAMPLES = 5, TIMED_BUDGET = 3000, SHARE_PLANS = 100, SHARE_BUDGET = 100000 };
 
 static const double SAMPLE_SECONDS = 0.02;
 
-enum operation { CHEAPEST, BEST };
-
 struct column {
     const char *maker, *way;
     planner *call;
-    enum operation operation;
 };
 
-static const struct column CHEAPEST_COLUMNS[] = {
-    {"desk", "call", desk_call, CHEAPEST},
-    {"gcc", "bisect", reference_call, CHEAPEST},
-    {"gcc", "jumps", gcc_jumps_call, CHEAPEST},
+static const struct column COLUMNS[] = {
+    {"desk", "call", desk_call},
+    {"gcc", "bisect", reference_call},
+    {"gcc", "jumps", gcc_jumps_call},
 #ifdef WITH_CLANG
-    {"clang", "bisect", clang_bisect_call, CHEAPEST},
-    {"clang", "jumps", clang_jumps_call, CHEAPEST},
+    {"clang", "bisect", clang_bisect_call},
+    {"clang", "jumps", clang_jumps_call},
 #endif
 };
 
-static const struct column BEST_COLUMNS[] = {
-    {"best", "call", best_call, BEST},
-    {"desk", "call", desk_call, CHEAPEST},
-    {"gcc", "best", gcc_best_call, BEST},
-#ifdef WITH_CLANG
-    {"clang", "best", clang_best_call, BEST},
-#endif
-};
-
-/* Planners that are timed together, and the first one's time over each other one's. */
-struct table {
-    const struct column *columns;
-    int count;
-};
-
-enum { COLUMNS_MAX = 5 };
-
-#define TABLE(columns) {columns, sizeof columns / sizeof columns[0]}
-
-static const struct table CHEAPEST_TABLE = TABLE(CHEAPEST_COLUMNS), BEST_TABLE = TABLE(BEST_COLUMNS);
+enum { COLUMN_COUNT = sizeof COLUMNS / sizeof COLUMNS[0] };
 
 struct task {
     uint32_t wcet, period_min, period_max, deadline_cap, weight;
@@ -187,81 +161,61 @@ static double seconds(planner *call, const struct file *file, uint64_t budget, u
     return now() - start;
 }
 
-/* What CHEAPEST writes where BEST wrote `block`: no cost and no periods of a stop. */
-static void without_incumbent(uint8_t *block)
+/* All planners must give one block, which is returned in `block`. */
+static void same_block(const char *what, const struct file *file, uint64_t budget, uint8_t *block)
 {
-    uint32_t number = desk_number_of(block);
-
-    if (number != DESK_BUDGET && number != DESK_SPACE)
-        return;
-    memset(block + DESK_AT_COST, 0, DESK_AT_ROUNDS - DESK_AT_COST);
-    memset(block + DESK_AT_PERIODS, 0, DESK_BLOCK_LENGTH - DESK_AT_PERIODS);
-}
-
-/* All planners must give one block, but for an incumbent; returns the first one's
- * in `block`. */
-static void same_block(const struct table *table, const char *what, const struct file *file, uint64_t budget,
-                       uint8_t *block)
-{
-    const struct column *first = &table->columns[0];
-
-    first->call(file->bytes, file->length, block, DESK_BLOCK_LENGTH, budget);
-    for (const struct column *other = first + 1; other < first + table->count; other++) {
-        uint8_t expected[DESK_BLOCK_LENGTH], given[DESK_BLOCK_LENGTH];
-        memcpy(expected, block, sizeof expected);
-        if (other->operation != first->operation)
-            without_incumbent(expected);
-        other->call(file->bytes, file->length, given, sizeof given, budget);
-        if (memcmp(expected, given, sizeof given) != 0) {
-            printf("%s: %s %s and %s %s give different blocks\n", what, first->maker, first->way, other->maker,
-                   other->way);
+    desk_call(file->bytes, file->length, block, DESK_BLOCK_LENGTH, budget);
+    for (int p = 1; p < COLUMN_COUNT; p++) {
+        uint8_t given[DESK_BLOCK_LENGTH];
+        COLUMNS[p].call(file->bytes, file->length, given, sizeof given, budget);
+        if (memcmp(block, given, sizeof given) != 0) {
+            printf("%s: desk and %s %s give different blocks\n", what, COLUMNS[p].maker, COLUMNS[p].way);
             exit(1);
         }
     }
 }
 
-static void heading(const struct table *table)
+static void heading(void)
 {
     printf("%-16s %3s %6s %6s %5s", "plan", "n", "number", "rounds", "open");
-    for (int p = 0; p < table->count; p++)
-        printf(" %7s", table->columns[p].maker);
-    for (int p = 1; p < table->count; p++)
-        printf(" /%6s", table->columns[p].maker);
+    for (int p = 0; p < COLUMN_COUNT; p++)
+        printf(" %7s", COLUMNS[p].maker);
+    for (int p = 1; p < COLUMN_COUNT; p++)
+        printf(" /%6s", COLUMNS[p].maker);
     printf("\n%-16s %3s %6s %6s %5s", "", "", "", "", "");
-    for (int p = 0; p < table->count; p++)
-        printf(" %7s", table->columns[p].way);
-    for (int p = 1; p < table->count; p++)
-        printf(" %7s", table->columns[p].way);
+    for (int p = 0; p < COLUMN_COUNT; p++)
+        printf(" %7s", COLUMNS[p].way);
+    for (int p = 1; p < COLUMN_COUNT; p++)
+        printf(" %7s", COLUMNS[p].way);
     printf("\n");
 }
 
-static void time_plan(const struct table *table, const char *name, const struct file *file, uint64_t budget)
+static void time_plan(const char *name, const struct file *file, uint64_t budget)
 {
     uint8_t block[DESK_BLOCK_LENGTH];
-    double best[COLUMNS_MAX];
+    double least[COLUMN_COUNT];
 
-    same_block(table, name, file, budget, block);
+    same_block(name, file, budget, block);
     double one = seconds(reference_call, file, budget, 1);
     unsigned calls = one < SAMPLE_SECONDS ? (unsigned)(SAMPLE_SECONDS / (one + 1e-7)) + 1 : 1;
     for (int sample = 0; sample < SAMPLES; sample++)
-        for (int p = 0; p < table->count; p++) {
-            double time = seconds(table->columns[p].call, file, budget, calls) / calls;
-            if (sample == 0 || time < best[p])
-                best[p] = time;
+        for (int p = 0; p < COLUMN_COUNT; p++) {
+            double time = seconds(COLUMNS[p].call, file, budget, calls) / calls;
+            if (sample == 0 || time < least[p])
+                least[p] = time;
         }
     double rounds = desk_rounds_of(block) > 0 ? (double)desk_rounds_of(block) : 1;
     printf("%-16s %3" PRIu32 " %6" PRIu32 " %6" PRIu64 " %5" PRIu32, name, file->n, desk_number_of(block),
            desk_rounds_of(block), reference_open_nodes);
-    for (int p = 0; p < table->count; p++)
-        printf(" %7.2f", 1e6 * best[p] / rounds);
-    for (int p = 1; p < table->count; p++)
-        printf(" %7.2f", best[0] / best[p]);
+    for (int p = 0; p < COLUMN_COUNT; p++)
+        printf(" %7.2f", 1e6 * least[p] / rounds);
+    for (int p = 1; p < COLUMN_COUNT; p++)
+        printf(" %7.2f", least[0] / least[p]);
     printf("\n");
     fflush(stdout);
 }
 
-static void time_random(const struct table *table, const char *kind, uint32_t n, int narrow, uint32_t scale,
-                        uint64_t seed)
+static void time_random(const char *kind, uint32_t n, int narrow, uint32_t scale, uint64_t seed)
 {
     char name[32];
     struct file file = random_plan(n, narrow, scale, seed);
@@ -270,28 +224,28 @@ static void time_random(const struct table *table, const char *kind, uint32_t n,
         snprintf(name, sizeof name, "%s %" PRIu64, kind, seed);
     else
         snprintf(name, sizeof name, "%s %" PRIu64 " x %" PRIu32, kind, seed, scale);
-    time_plan(table, name, &file, TIMED_BUDGET);
+    time_plan(name, &file, TIMED_BUDGET);
 }
 
-static void time_plans(const struct table *table, char **paths, int path_count)
+static void time_plans(char **paths, int path_count)
 {
     struct file s = plan_s();
 
-    heading(table);
-    time_plan(table, "S", &s, SHARE_BUDGET);
+    heading();
+    time_plan("S", &s, SHARE_BUDGET);
     for (int k = 0; k < path_count; k++) {
         struct file file = read_file(paths[k]);
         const char *slash = strrchr(paths[k], '/');
-        time_plan(table, slash != NULL ? slash + 1 : paths[k], &file, SHARE_BUDGET);
+        time_plan(slash != NULL ? slash + 1 : paths[k], &file, SHARE_BUDGET);
     }
     for (uint32_t n = 4; n <= 16; n += 4)
         for (uint64_t seed = 1; seed <= 2; seed++)
-            time_random(table, "wide", n, 0, 1, seed);
+            time_random("wide", n, 0, 1, seed);
     for (uint32_t n = 4; n <= 16; n += 4)
         for (uint64_t seed = 1; seed <= 2; seed++)
-            time_random(table, "narrow", n, 1, 1, seed);
+            time_random("narrow", n, 1, 1, seed);
     for (uint32_t scale = 10; scale <= 100; scale *= 10)
-        time_random(table, "wide", 8, 0, scale, 1);
+        time_random("wide", 8, 0, scale, 1);
 }
 
 /* Shares and gaps */
@@ -329,8 +283,8 @@ static void share(uint32_t n, int narrow)
     for (uint64_t seed = 1; seed <= SHARE_PLANS; seed++) {
         uint8_t start[DESK_BLOCK_LENGTH], block[DESK_BLOCK_LENGTH];
         struct file file = random_plan(n, narrow, 1, seed);
-        gcc_best_call(file.bytes, file.length, start, sizeof start, 0);
-        uint32_t number = gcc_best_call(file.bytes, file.length, block, sizeof block, SHARE_BUDGET);
+        gcc_jumps_call(file.bytes, file.length, start, sizeof start, 0);
+        uint32_t number = gcc_jumps_call(file.bytes, file.length, block, sizeof block, SHARE_BUDGET);
         if (number != DESK_ANSWERED) {
             first[budget + space] = gap(desk_cost_of(start), desk_bound_of(block));
             last[budget + space] = gap(desk_cost_of(block), desk_bound_of(block));
@@ -350,13 +304,10 @@ static void share(uint32_t n, int narrow)
 
 int main(int argc, char **argv)
 {
-    printf("Processor microseconds a round, best of %d; budget %d, for S and files %d.\n", SAMPLES, TIMED_BUDGET,
+    printf("Processor microseconds a round, least of %d; budget %d, for S and files %d.\n", SAMPLES, TIMED_BUDGET,
            SHARE_BUDGET);
-    printf("open: open nodes at the end; desk, best: the product; /: the first column's time over this one's.\n");
-    printf("\nCHEAPEST\n");
-    time_plans(&CHEAPEST_TABLE, argv + 1, argc - 1);
-    printf("\nBEST\n");
-    time_plans(&BEST_TABLE, argv + 1, argc - 1);
+    printf("open: open nodes at the end; desk: the product; /: its time over that of C.\n\n");
+    time_plans(argv + 1, argc - 1);
 
     printf("\nOf %d random plans, budget %d. Gap: what the incumbent of a stop costs above its bound, in percent of\n"
            "the bound; the first incumbent is all greatest periods.\n",

@@ -1,4 +1,4 @@
-/* The way to the mua by whole tests, bisected. Part of planner.c. */
+/* The way to the mua and to a lowering by whole tests, bisected. Part of planner.c. */
 
 /* The greatest period of task i that leaves task k late, if that is above
  * `late`; else `late`. Leaves periods[i] at some value. */
@@ -26,17 +26,35 @@ static uint32_t greatest_late(const struct plan *plan, uint32_t *periods, uint32
     return late;
 }
 
-/* The period of task i matters to task i and those below it only: with a late
- * task above, every value will do. */
+/* The same of task i and those below it, the only ones that its period matters to. The
+ * lowest first: it is mostly the one that misses. */
+static uint32_t greatest_late_of_any(const struct plan *plan, uint32_t *periods, uint32_t i, uint32_t late)
+{
+    for (uint32_t k = plan->n; k-- > i;)
+        late = greatest_late(plan, periods, i, k, late);
+    return late;
+}
+
+/* With a late task above, every value will do. */
 static void raise_to_mua(const struct plan *plan, uint32_t *periods)
 {
     int late_above = 0;
 
     for (uint32_t i = 0; i < plan->n; i++) {
-        uint32_t late = late_above ? plan->period_max[i] : periods[i];
-        for (uint32_t k = i; k < plan->n && late < plan->period_max[i]; k++)
-            late = greatest_late(plan, periods, i, k, late);
-        periods[i] = late;
+        periods[i] = late_above ? plan->period_max[i] : greatest_late_of_any(plan, periods, i, periods[i]);
         late_above = late_above || !meets_deadline(plan, periods, i);
     }
+}
+
+static uint64_t lower_to(const struct plan *plan, const uint32_t *node, uint64_t node_cost, uint64_t limit,
+                         uint32_t *periods)
+{
+    uint64_t cost = node_cost;
+
+    memcpy(periods, plan->period_max, plan->n * sizeof *periods);
+    for (uint32_t i = 0; i < plan->n && cost <= limit; i++) {
+        periods[i] = greatest_late_of_any(plan, periods, i, node[i] - 1) + 1;
+        cost += (uint64_t)plan->weight[i] * (periods[i] - node[i]);
+    }
+    return cost;
 }

@@ -1,6 +1,6 @@
-/* The way to the mua as crates/boundary/src/begins.rt, misses.rt and mua.rt go it:
- * jumps from busy periods, and climbs that begin by those that are known. Part of
- * planner.c. */
+/* The way to the mua and to a lowering as crates/boundary/src/begins.rt, misses.rt,
+ * mua.rt and lowering.rt go it: jumps from busy periods, and climbs that begin by those
+ * that are known. Part of planner.c. */
 
 static uint32_t greater(uint32_t a, uint32_t b) { return a < b ? b : a; }
 
@@ -129,4 +129,23 @@ static void raise_to_mua(const struct plan *plan, uint32_t *periods)
             above = raise_one(plan, periods, i, start_at(plan, i, above));
         else
             periods[i] = plan->period_max[i];
+}
+
+/* The lowest task's busy period is no shorter than before a period was lowered: its
+ * climbs begin there. */
+static uint64_t lower_to(const struct plan *plan, const uint32_t *node, uint64_t node_cost, uint64_t limit,
+                         uint32_t *periods)
+{
+    uint32_t own = 0, start = plan->own_demand[plan->n - 1];
+    uint64_t cost = node_cost;
+
+    memcpy(periods, plan->period_max, plan->n * sizeof *periods);
+    for (uint32_t i = 0; i < plan->n && cost <= limit; i++) {
+        own = busy_from(plan, periods, i, last_end(plan, i, periods[i]), start_at(plan, i, own));
+        struct miss miss = last_miss_from(plan, periods, i, own, node[i] - 1, start);
+        periods[i] = miss.last + 1;
+        cost += (uint64_t)plan->weight[i] * (periods[i] - node[i]);
+        start = miss.busy;
+    }
+    return cost;
 }

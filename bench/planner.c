@@ -1,7 +1,7 @@
 /* The planner in plain C, as a measure for the proved one: docs/FORMAT.md's rule,
  * with the costs kept beside the nodes and no work space to clear. The way to a
- * maximal unschedulable assignment is bisection or, with JUMPS defined, the
- * product's. With BEST defined, too, it is BEST and not CHEAPEST. */
+ * maximal unschedulable assignment and to a lowering is bisection or, with JUMPS
+ * defined, the product's. */
 #include "planner.h"
 
 #include <string.h>
@@ -189,7 +189,10 @@ static int is_schedulable(const struct plan *plan, const uint32_t *periods)
 }
 
 /* raise_to_mua(plan, periods): an unschedulable assignment becomes its maximal
- * unschedulable one. */
+ * unschedulable one.
+ * lower_to(plan, node, node_cost, limit, periods): the periods become the greatest
+ * ones, each in turn lowered to the least value from the node's on that leaves all
+ * schedulable; returns their cost, or where that is above `limit` something above it. */
 #ifdef JUMPS
 #include "jumps.h"
 #else
@@ -301,12 +304,7 @@ static void write_periods(const struct plan *plan, const uint32_t *periods, uint
     memcpy(outcome->periods, periods, plan->n * sizeof *periods);
 }
 
-#ifdef BEST
-#ifndef JUMPS
-#error "BEST goes the way of JUMPS only"
-#endif
 #include "incumbent.h"
-#endif
 
 static void search(const struct plan *plan, uint64_t budget, struct outcome *outcome)
 {
@@ -325,9 +323,7 @@ static void search(const struct plan *plan, uint64_t budget, struct outcome *out
     }
     open.count = 0;
     list(&open, plan, plan->period_min);
-#ifdef BEST
     begin_incumbent(plan, outcome);
-#endif
     while (outcome->rounds < budget) {
         uint32_t node[TASKS_MAX];
         uint32_t least = least_open(&open, n);
@@ -339,9 +335,7 @@ static void search(const struct plan *plan, uint64_t budget, struct outcome *out
             write_periods(plan, node, cost, outcome);
             return;
         }
-#ifdef BEST
         improve(plan, node, cost, outcome);
-#endif
         if (!list_children(&open, plan, node)) {
             outcome->number = 34;
             outcome->bound = cost;
