@@ -1,6 +1,5 @@
-//! compare [SEED]: calls desk_call, and best_call with BEST in CHEAPEST's place, on
-//! many plan files of both versions, sound and damaged, and holds each block byte for
-//! byte to model.rs, and the two to each other.
+//! compare [SEED]: calls desk_call on many plan files of both versions, sound and
+//! damaged, twice each, and holds each block byte for byte to model.rs.
 //! Small plans are also solved by trying every assignment. One seed always gives the
 //! same files. Exit status 0 when all agree and every number came in both versions.
 
@@ -9,7 +8,7 @@
 mod model;
 mod plans;
 
-use model::{Node, Outcome, Outcomes, Task, TICK_MAX};
+use model::{Node, Outcome, Task, TICK_MAX};
 use plans::{
     damaged_file, dearest_plan, delayed, encode, extreme_plan, filled, infeasible_plan, infeasible_plan_2,
     latest_plan, limit_files, loaded_plan, named, put, random_plan, small_plan, sound_file, tight, version_traps,
@@ -20,10 +19,7 @@ use std::process::exit;
 
 extern "C" {
     fn desk_call(file: *const u8, file_len: usize, block: *mut u8, block_len: usize, budget: u64) -> u32;
-    fn best_call(file: *const u8, file_len: usize, block: *mut u8, block_len: usize, budget: u64) -> u32;
 }
-
-type Call = unsafe extern "C" fn(*const u8, usize, *mut u8, usize, u64) -> u32;
 
 const DEFAULT_SEED: u64 = 20_240_229;
 const BLOCK: usize = 100;
@@ -66,7 +62,7 @@ struct Made {
     file_holds: bool,
 }
 
-fn make(call: Call, random: &mut Random, file: &[u8], content: &[u8], budget: u64) -> Made {
+fn make(random: &mut Random, file: &[u8], content: &[u8], budget: u64) -> Made {
     let file = lend(random, file);
     let file_before = file.bytes.clone();
     let mut block = lend(random, content);
@@ -74,15 +70,8 @@ fn make(call: Call, random: &mut Random, file: &[u8], content: &[u8], budget: u6
     let (at, length) = (block.at, block.length);
     let space = &mut block.bytes[at..at + length];
     // Sound: both parts are live for their lengths and do not overlap.
-    let number = unsafe { call(file.content().as_ptr(), file.length, space.as_mut_ptr(), length, budget) };
+    let number = unsafe { desk_call(file.content().as_ptr(), file.length, space.as_mut_ptr(), length, budget) };
     Made { number, block, block_before, file_holds: file.bytes == file_before }
-}
-
-/// Whether two blocks agree in all that CHEAPEST and BEST share: number and place,
-/// rounds, bound and n; all of it where the search did not stop.
-fn shared_alike(one: &[u8], other: &[u8]) -> bool {
-    let stopped = one[0] == 33 || one[0] == 34;
-    one[..8] == other[..8] && one[16..36] == other[16..36] && (stopped || one == other)
 }
 
 // Comparison.
@@ -130,35 +119,31 @@ impl Comparison {
         }
     }
 
-    /// Both calls, against each other and against the model; returns what the
-    /// model says.
-    fn call(&mut self, random: &mut Random, file: &[u8], budget: u64) -> Outcomes {
-        let outcomes = model::desk(file, budget);
-        let old = [random.next() as u8; BLOCK];
-        let desk = make(desk_call, random, file, &old, budget);
-        let best = make(best_call, random, file, &old, budget);
-        self.calls += 2;
-        if !shared_alike(desk.block.content(), best.block.content()) {
-            self.fail("the two calls differ", file, budget, &outcomes.best, best.block.content());
+    /// Two calls, at different places and over different blocks, against the model;
+    /// returns what it says.
+    fn call(&mut self, random: &mut Random, file: &[u8], budget: u64) -> Outcome {
+        let outcome = model::desk(file, budget);
+        let old = random.next() as u8;
+        for byte in [old, !old] {
+            let made = make(random, file, &[byte; BLOCK], budget);
+            self.calls += 1;
+            self.hold(&made, file, budget, &outcome);
         }
-        self.hold(&desk, file, budget, &outcomes.cheapest);
-        self.hold(&best, file, budget, &outcomes.best);
-        outcomes
+        outcome
     }
 
     /// The same, counted.
-    fn check(&mut self, random: &mut Random, file: &[u8], budget: u64) -> Outcomes {
-        let outcomes = self.call(random, file, budget);
-        let Outcome { number, place, .. } = outcomes.cheapest;
-        self.times[number as usize] += 1;
-        self.places[number as usize].insert(place);
-        outcomes
+    fn check(&mut self, random: &mut Random, file: &[u8], budget: u64) -> Outcome {
+        let outcome = self.call(random, file, budget);
+        self.times[outcome.number as usize] += 1;
+        self.places[outcome.number as usize].insert(outcome.place);
+        outcome
     }
 
     /// A block of a wrong length: 25 before anything of the file, nothing written.
-    fn check_length(&mut self, call: Call, random: &mut Random, file: &[u8], length: usize) {
+    fn check_length(&mut self, random: &mut Random, file: &[u8], length: usize) {
         let budget = random.next();
-        let made = make(call, random, file, &vec![0x5a; length], budget);
+        let made = make(random, file, &vec![0x5a; length], budget);
         self.calls += 1;
         if made.number != 25 || made.block.bytes != made.block_before || !made.file_holds {
             let outcome = Outcome { number: 25, ..Outcome::default() };
@@ -169,8 +154,9 @@ impl Comparison {
 
     fn check_lengths(&mut self, random: &mut Random, file: &[u8]) {
         for length in [0, 1, 99, 101, 1_000] {
-            self.check_length(desk_call, random, file, length);
-            self.check_length(best_call, random, file, length);
+            for _ in 0..2 {
+                self.check_length(random, file, length);
+            }
         }
     }
 
@@ -185,7 +171,7 @@ impl Comparison {
     fn says(&mut self, random: &mut Random, tasks: &[Task], number: u32, place: u32) {
         let file = encode(tasks, &tight(2, 16));
         self.files += 1;
-        let outcome = self.check(random, &file, 1).cheapest;
+        let outcome = self.check(random, &file, 1);
         if (outcome.number, outcome.place) != (number, place) {
             self.fail("another number or place than by hand", &file, 1, &outcome, &[]);
         }
@@ -245,39 +231,38 @@ fn lowering_by_scan(tasks: &[Task], node: &[u64]) -> Vec<u64> {
 }
 
 /// What a stop says of its incumbent, against the least of all.
-fn incumbent_holds(tasks: &[Task], best: &Outcome, least: &Node) -> bool {
+fn incumbent_holds(tasks: &[Task], stop: &Outcome, least: &Node) -> bool {
     let within = |(task, period): (&Task, &u64)| task.period_min <= *period && *period <= task.period_max;
-    best.periods.len() == tasks.len()
-        && tasks.iter().zip(&best.periods).all(within)
-        && schedulable_by_scan(tasks, &best.periods)
-        && best.cost == model::node(tasks, best.periods.clone()).cost
-        && least.cost <= best.cost
-        && best.bound <= best.cost
+    stop.periods.len() == tasks.len()
+        && tasks.iter().zip(&stop.periods).all(within)
+        && schedulable_by_scan(tasks, &stop.periods)
+        && stop.cost == model::node(tasks, stop.periods.clone()).cost
+        && least.cost <= stop.cost
+        && stop.bound <= stop.cost
 }
 
-/// What the demands say of the outcomes, against every assignment.
+/// What the demands say of the outcome, against every assignment.
 fn demands_hold(
     tasks: &[Task],
-    outcomes: &Outcomes,
+    outcome: &Outcome,
     least: &Option<Node>,
     count: u64,
     budget: u64,
     space: u64,
 ) -> bool {
-    let Outcomes { cheapest, best } = outcomes;
     let Some(least) = least else {
-        return cheapest.number == 31 || cheapest.number == 32;
+        return outcome.number == 31 || outcome.number == 32;
     };
     let stop_holds = || {
         (budget < count || space / (tasks.len() as u64) < count)
-            && cheapest.bound <= least.cost
-            && incumbent_holds(tasks, best, least)
+            && outcome.bound <= least.cost
+            && incumbent_holds(tasks, outcome, least)
     };
-    cheapest.rounds <= count
-        && match cheapest.number {
-            0 => cheapest.cost == least.cost && cheapest.periods == least.periods,
-            33 => stop_holds() && cheapest.rounds == budget,
-            34 => stop_holds() && cheapest.rounds <= budget,
+    outcome.rounds <= count
+        && match outcome.number {
+            0 => outcome.cost == least.cost && outcome.periods == least.periods,
+            33 => stop_holds() && outcome.rounds == budget,
+            34 => stop_holds() && outcome.rounds <= budget,
             _ => false,
         }
 }
@@ -296,16 +281,16 @@ fn small_plans(
         for budget in
             [random.of(&[0, 1, 2]), random.within(3, 30), random.of(&[assignments, 1 << 32, 1 << 63, u64::MAX])]
         {
-            let outcomes = comparison.check(random, &file, budget);
-            if !demands_hold(&tasks, &outcomes, &least, assignments, budget, model::WORK_SPACE) {
-                comparison.fail("not what trying all gives", &file, budget, &outcomes.best, &[]);
+            let outcome = comparison.check(random, &file, budget);
+            if !demands_hold(&tasks, &outcome, &least, assignments, budget, model::WORK_SPACE) {
+                comparison.fail("not what trying all gives", &file, budget, &outcome, &[]);
             }
         }
         // The model alone in a small work space: 34 comes often there.
         let space = random.within(tasks.len() as u64, 24);
-        let outcomes = model::search(&tasks, u64::MAX, space);
-        if !demands_hold(&tasks, &outcomes, &least, assignments, u64::MAX, space) {
-            comparison.fail("in a small space: not what trying all gives", &file, u64::MAX, &outcomes.best, &[]);
+        let outcome = model::search(&tasks, u64::MAX, space);
+        if !demands_hold(&tasks, &outcome, &least, assignments, u64::MAX, space) {
+            comparison.fail("in a small space: not what trying all gives", &file, u64::MAX, &outcome, &[]);
         }
         // The model's times and lowering of any node, against their definitions.
         let node: Vec<u64> = tasks.iter().map(|task| random.within(task.period_min, task.period_max)).collect();
@@ -359,9 +344,9 @@ fn same_answers(
         let wanted = comparison.call(random, &plain, budget);
         let file = sound_file(random, 2, &tasks);
         comparison.files += 1;
-        let outcomes = comparison.check(random, &file, budget);
-        if outcomes != wanted {
-            comparison.fail("not as in version 1", &file, budget, &outcomes.best, &[]);
+        let outcome = comparison.check(random, &file, budget);
+        if outcome != wanted {
+            comparison.fail("not as in version 1", &file, budget, &outcome, &[]);
         }
     }
 }
@@ -420,23 +405,16 @@ fn examples() {
             let [cost, rounds, bound] = numbers;
             let n = tasks.len() as u32;
             let wanted = Outcome { number, place, cost, rounds, bound, n, periods: periods.to_vec() };
-            let outcomes = model::search(tasks, budget, space);
-            assert_eq!(outcomes, Outcomes { cheapest: wanted.clone(), best: wanted });
+            assert_eq!(model::search(tasks, budget, space), wanted);
         };
-    // A stop: CHEAPEST gives no periods, BEST the incumbent.
-    let stops = |tasks: &[Task], budget: u64, space: u64, number: u32, numbers: [u64; 3], periods: &[u64]| {
-        let [cost, rounds, bound] = numbers;
-        let cheapest = Outcome { number, rounds, bound, n: tasks.len() as u32, ..Outcome::default() };
-        let best = Outcome { cost, periods: periods.to_vec(), ..cheapest.clone() };
-        assert_eq!(model::search(tasks, budget, space), Outcomes { cheapest, best });
-    };
     let ample = model::WORK_SPACE;
     says(&p, 100, ample, 0, 0, [6, 4, 0], &[2, 4]);
-    stops(&p, 0, ample, 33, [14, 0, 2], &[6, 8]);
+    // A stop has the periods of the incumbent and their cost.
+    says(&p, 0, ample, 33, 0, [14, 0, 2], &[6, 8]);
     for (budget, bound) in [(1, 4), (2, 5), (3, 6)] {
-        stops(&p, budget, ample, 33, [6, budget, bound], &[2, 4]);
+        says(&p, budget, ample, 33, 0, [6, budget, bound], &[2, 4]);
     }
-    stops(&p, 9, 2, 34, [6, 2, 4], &[2, 4]);
+    says(&p, 9, 2, 34, 0, [6, 2, 4], &[2, 4]);
     says(&named(&[(1, 1, 6, 1_000, 1), (2, 1, 8, 1_000, 3)]), 100, ample, 0, 0, [12, 3, 0], &[3, 3]);
     says(&named(&[(1, 1, 6, 1_000, 1), (2, 1, 8, 3, 1)]), 100, ample, 0, 0, [6, 3, 0], &[3, 3]);
     says(&named(&[(1, 1, 1, 1_000, 1), (2, 1, 8, 1_000, 1)]), 100, ample, 32, 2, [0, 0, 0], &[]);
@@ -482,8 +460,8 @@ fn examples() {
 fn chosen_files(comparison: &mut Comparison, random: &mut Random) {
     let s = encode(&plan_s(), &tight(1, 6));
     comparison.files += 1;
-    let outcome = comparison.check(random, &s, u64::MAX).cheapest;
-    if (outcome.number, outcome.bound, outcome.rounds) != (34, 1_448, 13_870) {
+    let outcome = comparison.check(random, &s, u64::MAX);
+    if (outcome.number, outcome.cost, outcome.bound, outcome.rounds) != (34, 4_877, 1_448, 13_870) {
         comparison.fail("plan S", &s, u64::MAX, &outcome, &[]);
     }
     // The round that overfills the space gives 34 even as the last one.
@@ -493,8 +471,8 @@ fn chosen_files(comparison: &mut Comparison, random: &mut Random) {
     let weights = [13, 20, 37, 40, 50, 57, 60, 61, 71, 86, 87, 98, 100];
     let late = encode(&named(&weights.map(|weight| (1, 10, 39, 1_000, weight))), &tight(1, weights.len()));
     comparison.files += 1;
-    let full = comparison.check(random, &late, u64::MAX).best;
-    let before = comparison.check(random, &late, full.rounds - 1).best;
+    let full = comparison.check(random, &late, u64::MAX);
+    let before = comparison.check(random, &late, full.rounds - 1);
     if full.number != 34 || before.number != 33 || full.cost >= before.cost {
         comparison.fail("the last round's incumbent", &late, u64::MAX, &full, &[]);
     }
@@ -506,7 +484,7 @@ fn chosen_files(comparison: &mut Comparison, random: &mut Random) {
     let dearest = dearest_plan();
     let file = encode(&dearest, &Layout { version: 1, rows: 16, names: FILE_MAX - 256, total: FILE_MAX });
     comparison.files += 1;
-    let outcome = comparison.check(random, &file, 1).cheapest;
+    let outcome = comparison.check(random, &file, 1);
     if (outcome.number, outcome.cost, outcome.rounds) != (0, 16_000_000_000, 1) {
         comparison.fail("the dearest plan", &file, 1, &outcome, &[]);
     }

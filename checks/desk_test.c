@@ -133,17 +133,31 @@ static void call(const char *what, const uint8_t *file, size_t file_len, size_t 
     call_exact(what, file, file_len, block_len, budget, number, wanted);
 }
 
-/* A call that gives no answer: the block has these numbers and zeros. */
-static void gives(const char *what, const uint8_t *file, size_t file_len, uint64_t budget, uint32_t number,
-                  uint32_t place, uint64_t rounds, uint64_t bound, uint32_t n)
+/* A refusal: the block has number, place, n and zeros. */
+static void refuses(const char *what, const uint8_t *file, size_t file_len, uint32_t number, uint32_t place, uint32_t n)
 {
     uint8_t wanted[DESK_BLOCK_LENGTH] = {0};
 
     put(wanted + DESK_AT_NUMBER, number, 4);
     put(wanted + DESK_AT_PLACE, place, 4);
-    put(wanted + DESK_AT_ROUNDS, rounds, 8);
-    put(wanted + DESK_AT_BOUND, bound, 8);
     put(wanted + DESK_AT_N, n, 4);
+    call(what, file, file_len, DESK_BLOCK_LENGTH, 9, number, wanted);
+}
+
+/* A search of as many rounds as its budget, of two tasks of weight 1. The periods are
+ * the answer's or the incumbent's. */
+static void ends(const char *what, const uint8_t *file, size_t file_len, uint64_t budget, uint32_t number,
+                 uint64_t bound, const uint32_t *periods)
+{
+    uint8_t wanted[DESK_BLOCK_LENGTH] = {0};
+
+    put(wanted + DESK_AT_NUMBER, number, 4);
+    put(wanted + DESK_AT_COST, periods[0] + periods[1], 8);
+    put(wanted + DESK_AT_ROUNDS, budget, 8);
+    put(wanted + DESK_AT_BOUND, bound, 8);
+    put(wanted + DESK_AT_N, 2, 4);
+    put(wanted + DESK_AT_PERIODS, periods[0], 4);
+    put(wanted + DESK_AT_PERIODS + 4, periods[1], 4);
     call(what, file, file_len, DESK_BLOCK_LENGTH, budget, number, wanted);
 }
 
@@ -155,7 +169,7 @@ static void changed_in(const uint8_t *sound, size_t length, const char *what, si
 
     memcpy(file, sound, length);
     put(file + at, value, width);
-    gives(what, file, length, 9, number, place, 0, 0, n);
+    refuses(what, file, length, number, place, n);
 }
 
 static void changed(const char *what, size_t at, uint64_t value, int width, uint32_t number, uint32_t place, uint32_t n)
@@ -189,21 +203,30 @@ static void test_answer(void)
 
 static void test_stops(void)
 {
-    gives("P, budget 0", P, sizeof P, 0, DESK_BUDGET, 0, 0, 2, 2);
-    gives("P, budget 1", P, sizeof P, 1, DESK_BUDGET, 0, 1, 4, 2);
-    gives("P, budget 2", P, sizeof P, 2, DESK_BUDGET, 0, 2, 5, 2);
-    gives("P, budget 3", P, sizeof P, 3, DESK_BUDGET, 0, 3, 6, 2);
+    static const uint32_t greatest[] = {6, 8}, lowered[] = {2, 4};
+    uint8_t block[DESK_BLOCK_LENGTH];
+
+    ends("P, budget 0", P, sizeof P, 0, DESK_BUDGET, 2, greatest);
+    ends("P, budget 1", P, sizeof P, 1, DESK_BUDGET, 4, lowered);
+    ends("P, budget 2", P, sizeof P, 2, DESK_BUDGET, 5, lowered);
+    ends("P, budget 3", P, sizeof P, 3, DESK_BUDGET, 6, lowered);
+
+    desk_call(P, sizeof P, block, sizeof block, 0);
+    check(desk_number_of(block) == DESK_BUDGET && desk_place_of(block) == 0, "a stop's accessors", "number, place");
+    check(desk_cost_of(block) == 14 && desk_rounds_of(block) == 0, "a stop's accessors", "cost, rounds");
+    check(desk_bound_of(block) == 2 && desk_n_of(block) == 2, "a stop's accessors", "bound, n");
+    check(desk_period_of(block, 1) == 6 && desk_period_of(block, 2) == 8, "a stop's accessors", "periods");
 }
 
 static void test_refusals(void)
 {
     uint8_t file[DESK_FILE_MAX + 1] = {0};
 
-    gives("an empty file", file, 0, 9, DESK_FILE_SIZE, 0, 0, 0, 0);
-    gives("15 bytes", P, 15, 9, DESK_FILE_SIZE, 0, 0, 0, 0);
+    refuses("an empty file", file, 0, DESK_FILE_SIZE, 0, 0);
+    refuses("15 bytes", P, 15, DESK_FILE_SIZE, 0, 0);
     memcpy(file, P, sizeof P);
     put(file + 12, DESK_FILE_MAX + 1, 4);
-    gives("2,049 bytes", file, DESK_FILE_MAX + 1, 9, DESK_FILE_SIZE, 0, 0, 0, 0);
+    refuses("2,049 bytes", file, DESK_FILE_MAX + 1, DESK_FILE_SIZE, 0, 0);
     changed("version 0", 0, 0, 2, DESK_VERSION, 0, 0);
     changed("version 3", 0, 3, 2, DESK_VERSION, 0, 0);
     changed("version 257", 0, 257, 2, DESK_VERSION, 0, 0);
@@ -211,7 +234,7 @@ static void test_refusals(void)
     changed("no task", 2, 0, 2, DESK_TASK_COUNT, 0, 0);
     changed("seventeen tasks", 2, 17, 2, DESK_TASK_COUNT, 0, 0);
     changed("total one more", 12, P_LENGTH + 1, 4, DESK_TOTAL, 0, 0);
-    gives("one byte short", P, sizeof P - 1, 9, DESK_TOTAL, 0, 0, 0, 0);
+    refuses("one byte short", P, sizeof P - 1, DESK_TOTAL, 0, 0);
     changed("rows in the header", 4, 15, 4, DESK_AREA, 1, 0);
     changed("rows past the end", 4, P_LENGTH - 39, 4, DESK_AREA, 1, 0);
     changed("names in the header", 8, 0, 4, DESK_AREA, 2, 0);
@@ -220,7 +243,7 @@ static void test_refusals(void)
     memcpy(file, P, sizeof P);
     put(file + 12, DESK_FILE_MAX, 4);
     file[DESK_FILE_MAX - 1] = 1;
-    gives("last gap byte not zero", file, DESK_FILE_MAX, 9, DESK_GAP, DESK_FILE_MAX - 1, 0, 0, 0);
+    refuses("last gap byte not zero", file, DESK_FILE_MAX, DESK_GAP, DESK_FILE_MAX - 1, 0);
     changed("no work", P_ROWS, 0, 4, DESK_FIELD, 1, 0);
     changed("weight 1,001", P_ROWS + 36, 1001, 4, DESK_FIELD, 2, 0);
     changed("bounds crossed", P_ROWS + 24, 9, 4, DESK_BOUNDS, 2, 0);
@@ -228,7 +251,7 @@ static void test_refusals(void)
     changed("a letter after the end", P_NAMES + 31, 'x', 1, DESK_NAME, 2, 0);
     memcpy(file, P, sizeof P);
     memcpy(file + P_NAMES + 16, P + P_NAMES, 16);
-    gives("a name twice", file, sizeof P, 9, DESK_SAME_NAME, 2, 0, 0, 0);
+    refuses("a name twice", file, sizeof P, DESK_SAME_NAME, 2, 0);
     changed("work above the cap", P_ROWS + 32, 1, 4, DESK_LONE, 2, 2);
     changed("gauge at 1 only", P_ROWS + 8, 1, 4, DESK_NONE, 2, 2);
 }
@@ -254,21 +277,17 @@ static const struct held {
 static void test_held_answers(void)
 {
     call("version 2", HELD, sizeof HELD, DESK_BLOCK_LENGTH, 3, DESK_ANSWERED, HELD_ANSWER);
-    gives("version 2, budget 2", HELD, sizeof HELD, 2, DESK_BUDGET, 0, 2, 9, 2);
+    ends("version 2, budget 2", HELD, sizeof HELD, 2, DESK_BUDGET, 9, (const uint32_t[]){4, 5});
     for (size_t k = 0; k < sizeof HELD_CASES / sizeof HELD_CASES[0]; k++) {
         const struct held *held = &HELD_CASES[k];
-        uint8_t file[HELD_LENGTH], wanted[DESK_BLOCK_LENGTH] = {0};
+        uint8_t file[HELD_LENGTH];
 
         memcpy(file, HELD, sizeof file);
         for (int i = 0; i < 2; i++) {
             put(file + HELD_ROWS + 28 * i + HOLD, held->holds[i], 4);
             put(file + HELD_ROWS + 28 * i + LATE, held->lates[i], 4);
-            put(wanted + DESK_AT_PERIODS + 4 * i, held->periods[i], 4);
         }
-        put(wanted + DESK_AT_COST, held->periods[0] + held->periods[1], 8);
-        put(wanted + DESK_AT_ROUNDS, held->rounds, 8);
-        put(wanted + DESK_AT_N, 2, 4);
-        call(held->what, file, sizeof file, DESK_BLOCK_LENGTH, held->rounds, DESK_ANSWERED, wanted);
+        ends(held->what, file, sizeof file, held->rounds, DESK_ANSWERED, 0, held->periods);
     }
 }
 
@@ -288,7 +307,7 @@ static void test_held_refusals(void)
     held_changed("an empty name, version 2", HELD_NAMES + 16, 0, 1, DESK_NAME, 2, 0);
     memcpy(file, HELD, sizeof file);
     memcpy(file + HELD_NAMES + 16, HELD + HELD_NAMES, 16);
-    gives("a name twice, version 2", file, sizeof file, 9, DESK_SAME_NAME, 2, 0, 0, 0);
+    refuses("a name twice, version 2", file, sizeof file, DESK_SAME_NAME, 2, 0);
     held_changed("greatest hold", HELD_ROWS + HOLD, 1000000, 4, DESK_LONE, 1, 2);
     held_changed("work and hold one above high", HELD_ROWS + 28 + HOLD, 7, 4, DESK_LONE, 2, 2);
     held_changed("work and hold at high", HELD_ROWS + 28 + HOLD, 6, 4, DESK_NONE, 2, 2);

@@ -30,7 +30,7 @@ P = [
     ("radio", 2, 1, 8, 1000, 1),
 ]
 
-# Plan S of docs/FORMAT.md: stops with 34, bound 1448, rounds 13,870.
+# Plan S of docs/FORMAT.md: stops with 34, cost 4877, bound 1448, rounds 13,870.
 S = [(f"job-{k}", 10 * (k + 1), 1, 1000, 1000, 1) for k in range(1, 7)]
 
 # P with radio's low bound above its high bound: rule 9, place 2.

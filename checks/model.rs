@@ -48,13 +48,6 @@ pub struct Outcome {
     pub periods: Vec<u64>,
 }
 
-/// CHEAPEST's outcome and BEST's of one search.
-#[derive(Clone, Debug, PartialEq)]
-pub struct Outcomes {
-    pub cheapest: Outcome,
-    pub best: Outcome,
-}
-
 fn number_at(file: &[u8], at: usize, width: usize) -> u64 {
     (0..width).rev().fold(0, |value, k| value << 8 | u64::from(file[at + k]))
 }
@@ -295,26 +288,21 @@ pub fn lowering(tasks: &[Task], node: &[u64]) -> Vec<u64> {
     lowered
 }
 
-/// An answer or a refusal, which both operations share.
-fn shared(outcome: Outcome) -> Outcomes {
-    Outcomes { best: outcome.clone(), cheapest: outcome }
+/// The outcome with periods and cost: an answer's of the schedulable node, a stop's of
+/// the incumbent.
+fn concluded(outcome: Outcome, node: Node) -> Outcome {
+    Outcome { cost: node.cost, periods: node.periods, ..outcome }
 }
 
-/// A stop, at which BEST gives the incumbent.
-fn stop(outcome: Outcome, incumbent: Node) -> Outcomes {
-    let best = Outcome { cost: incumbent.cost, periods: incumbent.periods, ..outcome.clone() };
-    Outcomes { cheapest: outcome, best }
-}
-
-/// CHEAPEST and BEST with a work space of `space` numbers, at least n.
-pub fn search(tasks: &[Task], budget: u64, space: u64) -> Outcomes {
+/// CHEAPEST with a work space of `space` numbers, at least n.
+pub fn search(tasks: &[Task], budget: u64, space: u64) -> Outcome {
     let mut outcome = Outcome { n: tasks.len() as u32, ..Outcome::default() };
     let alone = |task: &Task| task.own_demand() + task.jitter > deadline(task, task.period_max);
     if let Some(i) = tasks.iter().position(alone) {
-        return shared(Outcome { number: 31, place: i as u32 + 1, ..outcome });
+        return Outcome { number: 31, place: i as u32 + 1, ..outcome };
     }
     if let Some(i) = first_late(tasks, &highest(tasks)) {
-        return shared(Outcome { number: 32, place: i as u32 + 1, ..outcome });
+        return Outcome { number: 32, place: i as u32 + 1, ..outcome };
     }
     let room = space / tasks.len() as u64;
     let mut open = vec![node(tasks, tasks.iter().map(|task| task.period_min).collect())];
@@ -324,7 +312,7 @@ pub fn search(tasks: &[Task], budget: u64, space: u64) -> Outcomes {
         let taken = open.swap_remove(least);
         outcome.rounds += 1;
         if schedulable(tasks, &taken.periods) {
-            return shared(Outcome { cost: taken.cost, periods: taken.periods, ..outcome });
+            return concluded(outcome, taken);
         }
         incumbent = incumbent.min(node(tasks, lowering(tasks, &taken.periods)));
         let mua = mua(tasks, &taken.periods);
@@ -339,20 +327,19 @@ pub fn search(tasks: &[Task], budget: u64, space: u64) -> Outcomes {
             }
         }
         if (open.len() + children.len()) as u64 > room {
-            return stop(Outcome { number: 34, bound: taken.cost, ..outcome }, incumbent);
+            return concluded(Outcome { number: 34, bound: taken.cost, ..outcome }, incumbent);
         }
         open.append(&mut children);
     }
     let least = open.iter().min().expect("an open node");
-    stop(Outcome { number: 33, bound: least.cost, ..outcome }, incumbent)
+    concluded(Outcome { number: 33, bound: least.cost, ..outcome }, incumbent)
 }
 
-/// What DESK writes into a block of 100 bytes, and what it would with BEST in
-/// CHEAPEST's place.
-pub fn desk(file: &[u8], budget: u64) -> Outcomes {
+/// What DESK writes into a block of 100 bytes.
+pub fn desk(file: &[u8], budget: u64) -> Outcome {
     match read(file) {
         Ok(tasks) => search(&tasks, budget, WORK_SPACE),
-        Err((number, place)) => shared(Outcome { number, place, ..Outcome::default() }),
+        Err((number, place)) => Outcome { number, place, ..Outcome::default() },
     }
 }
 
@@ -391,11 +378,15 @@ pub fn listing(input: &[u8]) -> String {
         Ok(tasks) => tasks,
         Err(refusal) => return refusal_line(refusal),
     };
-    let outcome = search(&tasks, LISTING_BUDGET, WORK_SPACE).cheapest;
-    let Outcome { number, place, cost, rounds, bound, periods, .. } = outcome;
+    listing_of(&tasks, &search(&tasks, LISTING_BUDGET, WORK_SPACE))
+}
+
+/// A stop's line ends with the incumbent's cost.
+pub fn listing_of(tasks: &[Task], outcome: &Outcome) -> String {
+    let &Outcome { number, place, cost, rounds, bound, .. } = outcome;
     match number {
-        0 => format!("cost {cost} rounds {rounds}\n") + &lines(&tasks, &periods),
-        33 | 34 => format!("refused {number} {place} bound {bound} rounds {rounds}\n"),
+        0 => format!("cost {cost} rounds {rounds}\n") + &lines(tasks, &outcome.periods),
+        33 | 34 => format!("refused {number} {place} bound {bound} rounds {rounds} best {cost}\n"),
         _ => refusal_line((number, place)),
     }
 }
