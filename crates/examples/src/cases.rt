@@ -1,6 +1,6 @@
-use super::example::{Call, Choice, Example};
-use super::operations::are_all;
+use super::example::{Call, Example};
 use super::show::{Bytes, Numbers, Refusal};
+use super::space::are_all;
 use listing::{INPUT_SIZE, Listing};
 use optimizer::{Answer, WORK};
 use plan::{Fault, WriteError};
@@ -69,19 +69,24 @@ fn state(work: &[u32]) -> &'static str {
     }
 }
 
-// CHEAPEST or BEST with the spaces of the call; the numbers of both are 7.
-fn try_choice(rt: &impl Print, file: &[u8], choice: Choice) -> io::Result<()> {
+// CHEAPEST with the spaces of the call; the numbers of both are 7.
+fn try_cheapest(
+    rt: &impl Print,
+    file: &[u8],
+    budget: u64,
+    space: usize,
+    room: usize,
+) -> io::Result<()> {
     let mut periods = [7; 17];
     let mut work = [7; WORK];
-    let periods = &mut periods[..choice.space.min(17)];
-    let work = &mut work[..choice.room.min(WORK)];
-    let outcome = choice.planner.choose(file, choice.budget, periods, work);
+    let periods = &mut periods[..space.min(17)];
+    let work = &mut work[..room.min(WORK)];
     let Answer {
         fault: Fault { number, place },
         cost,
         rounds,
         bound,
-    } = outcome.into();
+    } = optimizer::cheapest_periods(file, budget, periods, work).into();
     let periods = Numbers(periods);
     let work = state(work);
     println!(rt;
@@ -118,7 +123,11 @@ fn try_example(rt: &impl Print, example: &Example) -> io::Result<()> {
         Call::Read => try_read(rt, file),
         Call::Write { space } => try_write(rt, file, *space),
         Call::Times { space, periods } => try_times(rt, file, periods, *space),
-        Call::Choose(choice) => try_choice(rt, file, *choice),
+        Call::Cheapest {
+            budget,
+            space,
+            room,
+        } => try_cheapest(rt, file, *budget, *space, *room),
         Call::Feeders { space, pairs } => try_feeders(rt, file, pairs, *space),
         Call::List { budget, room } => show_listing(rt, &list(file, *budget, *room)),
         Call::Print => show_listing(rt, &listing::list_input(file)),

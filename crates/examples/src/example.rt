@@ -1,27 +1,6 @@
 use super::file::TestFile;
-use super::operations::Planner;
 use arrayvec::ArrayVec;
 use std::str::SplitWhitespace;
-
-// CHEAPEST or BEST with a budget, a space for so many periods and a work space of so many numbers.
-#[derive(Clone, Copy)]
-pub(crate) struct Choice {
-    pub planner: Planner,
-    pub budget: u64,
-    pub space: usize,
-    pub room: usize,
-}
-
-impl Choice {
-    fn parse(planner: Planner, mut words: SplitWhitespace<'_>) -> Option<Choice> {
-        Some(Choice {
-            planner,
-            budget: labelled(&mut words, "budget")?,
-            space: labelled(&mut words, "space")? as usize,
-            room: labelled(&mut words, "room")? as usize,
-        })
-    }
-}
 
 // What an example calls on its file.
 #[derive(Drop)]
@@ -34,7 +13,11 @@ pub(crate) enum Call {
         space: usize,
         periods: ArrayVec<u32, 17>,
     },
-    Choose(Choice),
+    Cheapest {
+        budget: u64,
+        space: usize,
+        room: usize,
+    },
     Feeders {
         space: usize,
         pairs: ArrayVec<u8, 512>,
@@ -93,8 +76,11 @@ impl Call {
                 space: labelled(&mut words, "space")? as usize,
                 periods: listed(words)?,
             }),
-            "cheapest" => Choice::parse(Planner::Cheapest, words).map(Call::Choose),
-            "best" => Choice::parse(Planner::Best, words).map(Call::Choose),
+            "cheapest" => Some(Call::Cheapest {
+                budget: labelled(&mut words, "budget")?,
+                space: labelled(&mut words, "space")? as usize,
+                room: labelled(&mut words, "room")? as usize,
+            }),
             "feeders" => Some(Call::Feeders {
                 space: labelled(&mut words, "space")? as usize,
                 pairs: bytes(words)?,

@@ -1,7 +1,7 @@
 #![tactic(auto)]
 
 // Examples and tests that are run, not proved: each line says what was tried and what came out.
-mod operations; // operations.rt: CHEAPEST and BEST by a value, and what they leave of a space
+mod space; // space.rt: a space whose numbers are all the same
 mod file; // file.rt: plan files, from words and from tasks
 mod example; // example.rt: a line of file stdin
 mod show; // show.rt: refusals, numbers and bytes as text
@@ -10,8 +10,8 @@ mod small; // small.rt: plans of up to three tasks, and their period assignments
 mod draw; // draw.rt: small plans from a fixed sequence
 mod clock; // clock.rt: TIMES against a clock
 mod enumeration; // enumeration.rt: all period assignments of a small plan
-mod rounds; // rounds.rt: the rounds of CHEAPEST and BEST by plain scans over them
-mod planner; // planner.rt: CHEAPEST and BEST against the plain rounds, and these against the enumeration
+mod rounds; // rounds.rt: the rounds of CHEAPEST by plain scans over them
+mod planner; // planner.rt: CHEAPEST against the plain rounds, and these against the enumeration
 mod chains; // chains.rt: FEEDERS against an enumeration of chains
 mod many; // many.rt: all of these over many drawn plans
 

@@ -1,7 +1,6 @@
 use super::draw::Sequence;
 use super::enumeration::Enumeration;
 use super::file::{TestFile, Version};
-use super::operations::Planner;
 use super::planner::{Changes, Run};
 use super::{chains, clock, planner};
 use std::{fmt, io};
@@ -16,11 +15,10 @@ struct Counts {
     assignments: u64,
     times: clock::Counts,
     cheapest: planner::Counts,
-    best: planner::Counts,
 }
 
 impl Counts {
-    // Compares over a plan in a version: TIMES at four period assignments, and CHEAPEST and BEST in four runs.
+    // Compares over a plan in a version: TIMES at four period assignments, and CHEAPEST in four runs.
     fn compare(&mut self, sequence: &Sequence, version: Version, all: &Enumeration) {
         let plan = &all.plan;
         let plan_file = TestFile::from_plan(version, plan);
@@ -32,12 +30,10 @@ impl Counts {
         for k in 0..4 {
             let periods = sequence.draw_periods(k, plan);
             let delays = sequence.draw_delays(k, plan);
-            let cheapest = Run::draw(all, Planner::Cheapest, sequence, k);
-            let best = Run::draw(all, Planner::Best, sequence, k);
+            let run = Run::draw(all, sequence, k);
             self.times
                 .compare(file, plan, &periods, &delays, clock::SOON);
-            self.cheapest.compare(&cheapest, file);
-            self.best.compare(&best, file);
+            self.cheapest.compare(&run, file);
         }
     }
 }
@@ -49,13 +45,11 @@ impl fmt::Display for Counts {
             assignments,
             times,
             cheapest,
-            best,
         } = *self;
         write!(
             f,
             "slacks by the clock: plans {plans} {times}\n\
-             cheapest periods by enumeration: plans {plans} period assignments {assignments} {cheapest}\n\
-             best periods by enumeration: plans {plans} {best}\n"
+             cheapest periods by enumeration: plans {plans} period assignments {assignments} {cheapest}\n"
         )
     }
 }

@@ -1,9 +1,9 @@
 use super::clock::{first_missed, own_demand};
 use super::draw::Sequence;
 use super::enumeration::{ASSIGNMENTS, Enumeration};
-use super::operations::{Outcome, Planner, are_all};
 use super::rounds::{End, Search};
 use super::small::{Assignment, SmallPlan};
+use super::space::are_all;
 use optimizer::{CallError, Conclusion, Stop};
 use plan::Task;
 use std::fmt;
@@ -33,11 +33,10 @@ fn refusal_of(plan: &SmallPlan) -> Option<CallError> {
     Some(CallError::Infeasible(place))
 }
 
-// A run of CHEAPEST or BEST on a plan, with a budget and with room for so many numbers.
+// A run of CHEAPEST on a plan, with a budget and with room for so many numbers.
 #[derive(Clone, Copy)]
 pub(crate) struct Run<'a> {
     all: &'a Enumeration,
-    planner: Planner,
     budget: u64,
     room: usize,
 }
@@ -50,17 +49,11 @@ fn enough(plan: &SmallPlan) -> usize {
 impl<'a> Run<'a> {
     // Run k of four: with enough budget and room, with little of the one, by number 28 of a sequence, of the other, by
     // number 29, and of both.
-    pub(crate) fn draw(
-        all: &'a Enumeration,
-        planner: Planner,
-        sequence: &Sequence,
-        k: usize,
-    ) -> Run<'a> {
+    pub(crate) fn draw(all: &'a Enumeration, sequence: &Sequence, k: usize) -> Run<'a> {
         let plan = &all.plan;
         let tasks = plan.count as u32;
         Run {
             all,
-            planner,
             budget: if k % 2 == 0 {
                 u64::from(plan.assignments())
             } else {
@@ -80,15 +73,10 @@ impl<'a> Run<'a> {
         self.budget < u64::from(plan.assignments()) || self.room < enough(plan)
     }
 
-    // The end of the plain rounds, with an incumbent where the operation keeps one.
+    // The end of the plain rounds.
     fn search(&self) -> Option<End> {
-        let plan = &self.all.plan;
-        let incumbent = match self.planner {
-            Planner::Cheapest => None,
-            Planner::Best => Some(plan.longest()),
-        };
-        let room = self.room / plan.count;
-        Search::new(self.all, room, incumbent).run(self.budget)
+        let room = self.room / self.all.plan.count;
+        Search::new(self.all, room).run(self.budget)
     }
 
     // Whether an end keeps what the enumeration says: it is the optimum, or its bound is at most the least cost, and
@@ -98,16 +86,16 @@ impl<'a> Run<'a> {
         let least = plan.cost(optimum);
         match end.conclusion {
             Conclusion::Answered { cost, rounds } => {
-                cost == least
-                    && end.found == Some(*optimum)
-                    && rounds <= u64::from(plan.assignments())
+                cost == least && end.found == *optimum && rounds <= u64::from(plan.assignments())
             }
-            Conclusion::Stopped { rounds, bound, .. } => {
-                let is_incumbent = match &end.found {
-                    Some(found) => self.all.is_met(found) && least <= plan.cost(found),
-                    None => true,
-                };
-                is_incumbent
+            Conclusion::Stopped {
+                cost,
+                rounds,
+                bound,
+                ..
+            } => {
+                self.all.is_met(&end.found)
+                    && least <= cost
                     && bound <= least
                     && rounds <= u64::from(plan.assignments())
                     && self.is_short()
@@ -121,21 +109,19 @@ impl<'a> Run<'a> {
         let Some(end) = self.search() else {
             return false;
         };
-        let same_periods = match &end.found {
-            Some(found) => periods == self.all.plan.periods(found),
-            None => are_all(periods, 7),
-        };
-        same_periods && conclusion == end.conclusion && self.is_sound(&end, optimum)
+        periods == self.all.plan.periods(&end.found)
+            && conclusion == end.conclusion
+            && self.is_sound(&end, optimum)
     }
 
     // The answer on the plan's file where it is right. Both spaces are 7, and a refusal leaves them so; what is lent is
     // cut to its length.
-    fn judge(&self, file: &[u8]) -> Option<Outcome> {
+    fn judge(&self, file: &[u8]) -> Option<Result<Conclusion, CallError>> {
         let mut periods = [7; 3];
         let mut work = [7; 3 * ASSIGNMENTS];
         let periods = &mut periods[..self.all.plan.count];
         let work = &mut work[..self.room.min(3 * ASSIGNMENTS)];
-        let answer = self.planner.choose(file, self.budget, periods, work);
+        let answer = optimizer::cheapest_periods(file, self.budget, periods, work);
         let is_right = match (answer, self.all.cheapest()) {
             (Ok(conclusion), Some(optimum)) => {
                 are_all(work, 0) && self.is_right(conclusion, &optimum, periods)

@@ -48,32 +48,28 @@ fn lowering(all: &Enumeration, node: Assignment) -> Assignment {
 #[derive(Clone, Copy)]
 pub(crate) struct End {
     pub conclusion: Conclusion,
-    pub found: Option<Assignment>,
+    pub found: Assignment,
 }
 
-// The rounds of CHEAPEST or, with an incumbent, of BEST, by plain scans.
+// The rounds of CHEAPEST by plain scans.
 #[derive(Drop)]
 pub(crate) struct Search<'a> {
     all: &'a Enumeration,
     // how many open nodes have room
     room: usize,
     open: ArrayVec<Assignment, ASSIGNMENTS>,
-    incumbent: Option<Assignment>,
+    incumbent: Assignment,
 }
 
 impl<'a> Search<'a> {
-    pub(crate) fn new(
-        all: &'a Enumeration,
-        room: usize,
-        incumbent: Option<Assignment>,
-    ) -> Search<'a> {
+    pub(crate) fn new(all: &'a Enumeration, room: usize) -> Search<'a> {
         let mut open = ArrayVec::new();
         open.push(all.plan.least());
         Search {
             all,
             room,
             open,
-            incumbent,
+            incumbent: all.plan.longest(),
         }
     }
 
@@ -90,12 +86,10 @@ impl<'a> Search<'a> {
 
     // Makes the lowering of a node the incumbent where that is less.
     fn improve(&mut self, node: Assignment) {
-        if let Some(incumbent) = &mut self.incumbent {
-            let plan = &self.all.plan;
-            let lowering = lowering(self.all, node);
-            if plan.order(&lowering) < plan.order(incumbent) {
-                *incumbent = lowering;
-            }
+        let plan = &self.all.plan;
+        let lowering = lowering(self.all, node);
+        if plan.order(&lowering) < plan.order(&self.incumbent) {
+            self.incumbent = lowering;
         }
     }
 
@@ -132,7 +126,7 @@ impl<'a> Search<'a> {
         End {
             conclusion: Conclusion::Stopped {
                 stop,
-                incumbent: self.incumbent.map(|incumbent| plan.cost(&incumbent)),
+                cost: plan.cost(&self.incumbent),
                 rounds,
                 bound: plan.cost(&least),
             },
@@ -150,7 +144,7 @@ impl<'a> Search<'a> {
                         cost: self.all.plan.cost(&node),
                         rounds,
                     },
-                    found: Some(node),
+                    found: node,
                 });
             }
             self.improve(node);
