@@ -24,7 +24,7 @@ planner gcc_jumps_call;
 planner clang_bisect_call, clang_jumps_call;
 #endif
 
-enum { SAMPLES = 5, TIMED_BUDGET = 3000, SHARE_PLANS = 100, SHARE_BUDGET = 100000 };
+enum { SAMPLES = 15, TIMED_BUDGET = 3000, SHARE_PLANS = 100, SHARE_BUDGET = 100000 };
 
 static const double SAMPLE_SECONDS = 0.02;
 
