@@ -119,8 +119,8 @@ impl Comparison {
         }
     }
 
-    /// Two calls, at different places and over different blocks, against the model;
-    /// returns what it says.
+    /// Two calls, at different places and over blocks that differ in every bit, so that
+    /// each byte must be written, against the model; returns what it says.
     fn call(&mut self, random: &mut Random, file: &[u8], budget: u64) -> Outcome {
         let outcome = model::desk(file, budget);
         let old = random.next() as u8;

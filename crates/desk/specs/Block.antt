@@ -52,7 +52,7 @@ no_periods = replicate max_tasks 0
 abbrev pub padded : List ℕ → List ℕ
 padded xs = xs ++ drop (length xs) no_periods
 
--- an outcome of CHEAPEST, with n: "all 0 unless answered", but at a stop "DESK's block shows the best's periods and cost
--- too"
+-- an outcome of CHEAPEST, with n: "all 0 unless answered", but at a stop "DESK's block shows the best's periods and
+-- cost too"
 abbrev pub carrying : Outcome → ℕ → Carried
 carrying o n = record { answer = o.answer; tasks = n; periods = padded (written o []) }

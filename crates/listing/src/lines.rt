@@ -3,7 +3,8 @@ ghost use Rattle.plan.specs.Tasks.{max_tasks};
 ghost use Rattle.plan.specs.Promises.{plan_tasks};
 ghost use Rattle.response.specs.Inner.{Limits};
 ghost use Rattle.optimizer.specs.Answers.{stop_fault};
-ghost use Rattle.listing.specs.Text.{decimal, fields, line, cost_word, rounds_word, refusal_fields, stop_fields, task_lines};
+ghost use Rattle.listing.specs.Text.{decimal, fields, line, cost_word, rounds_word};
+ghost use Rattle.listing.specs.Text.{refusal_fields, stop_fields, task_lines};
 ghost use Rattle.listing.specs.Inner.{line_size, listing_size};
 
 use super::writer::{Listing, put_labelled, put_number};

@@ -5,16 +5,18 @@ use Prim.Native.Nat.{ℕ, suc, ◌≤◌}
 use native.Mathlib.Omega.{arith}
 use lib.ListN.{length}
 use Rattle.plan.specs.declared.tasks.Task.{Task}
-use Rattle.plan.specs.Faults.{none, fault}
 use Rattle.plan.specs.Tasks.{AllValid, period_maxs, weights}
 use Rattle.response.specs.Analysis.{schedulable}
 use Rattle.response.specs.Assignments.{cost}
 use Rattle.response.proofs.Bounds.{true-within}
 use Rattle.boundary.specs.declared.node.Node.{Node}
-use Rattle.optimizer.specs.declared.conclusion.Answer.{Answer}
+use Rattle.optimizer.specs.declared.conclusion.Conclusion.{Conclusion}
+use Rattle.optimizer.specs.declared.conclusion.Conclusion.TheVariants.{Answered, Stopped}
+use Rattle.optimizer.specs.declared.conclusion.Stop.TheVariants.{Budget, Room}
 use Rattle.optimizer.specs.declared.nodes.OpenNodes.{OpenNodes}
-use Rattle.optimizer.specs.declared.round.Step.TheVariants.{Answered, Listed, Full}
+use Rattle.optimizer.specs.declared.round.Step.TheVariants.{Answered as Answers, Listed, Full}
 use Rattle.optimizer.specs.declared.round.Round.{Round}
+use Rattle.optimizer.specs.Answers.{conclusion_answer}
 use Rattle.optimizer.specs.Nodes.{least_of}
 use Rattle.optimizer.specs.Rule.{Rule, End, least}
 use Rattle.optimizer.specs.Search.{rule, improved, search}
@@ -58,13 +60,12 @@ module _ {ts : List Task} {goal : End (List ℕ)} {budget : ℕ} {nodes : OpenNo
   pub incumbent-sized : length incumbent.periods.items ≡ length ts
   incumbent-sized = g.looping.running.carried.within.sized
 
-  pub searching-spent : budget ≤ rounds → {p : List ℕ} → p ≡ incumbent.periods.items → {k : ℕ} → k ≡ incumbent.cost
+  pub searching-spent : budget ≤ rounds → {p : List ℕ} → p ≡ incumbent.periods.items
       → {b : ℕ} → b ≡ cost nodes.weights.items (least_open nodes)
-      → {r : Answer} → r ≡ record { fault = fault 33 0; cost = k; rounds = rounds; bound = b }
-      → Ends (searched (weights ts) goal) p r
-  searching-spent h ep ek {b} eb er =
+      → {c : Conclusion} → c ≡ Stopped Budget incumbent.cost rounds b → Ends (searched (weights ts) goal) p (conclusion_answer c)
+  searching-spent h ep {b} eb ec =
       let bound = subst (λ (ws : List ℕ). b ≡ cost ws (least_of ws (open_nodes nodes))) g.looping.weights eb in
-      rw (running-spent g.looping.running h) (record { answer = rw (er, ek, bound, g.costs); periods = ep })
+      rw (running-spent g.looping.running h) (record { answer = rw (ec, bound, g.costs); periods = ep })
 
   -- round n
   module _ {n : ℕ} (en : n ≡ suc rounds) (h : n ≤ budget) {nodes' : OpenNodes} {d : Round} (s : SameSpace nodes nodes')
@@ -75,12 +76,11 @@ module _ {ts : List Task} {goal : End (List ℕ)} {budget : ℕ} {nodes : OpenNo
     pub node-sized : length d.node.periods.items ≡ length ts
     node-sized = rw y.node (running-within g.looping.running).sized
 
-    pub searching-answered : d.step ≡ Answered → {p : List ℕ} → p ≡ d.node.periods.items → {k : ℕ} → k ≡ d.node.cost
-        → {r : Answer} → r ≡ record { fault = none; cost = k; rounds = n; bound = 0 }
-        → Ends (searched (weights ts) goal) p r
-    searching-answered e ep ek er =
+    pub searching-answered : d.step ≡ Answers → {p : List ℕ} → p ≡ d.node.periods.items
+        → {c : Conclusion} → c ≡ Answered d.node.cost n → Ends (searched (weights ts) goal) p (conclusion_answer c)
+    searching-answered e ep ec =
         rw (running-answered g.looping.running (omega arith) (open_nodes nodes') (rw e at y.goes))
-        (record { answer = rw (er, ek, y.costs, en); periods = ep ∙ y.node })
+        (record { answer = rw (ec, y.costs, en); periods = ep ∙ y.node })
 
     pub searching-improves : {o w : List ℕ} → Searchable ts o w → Improvable ts incumbent d.node
     searching-improves q = record {
@@ -105,12 +105,11 @@ module _ {ts : List Task} {goal : End (List ℕ)} {budget : ℕ} {nodes : OpenNo
           let u = g.looping.running in
           rw improved-is (carried-next u.lawful incumbent.periods.items u.carried u.opened (rw e at y.goes).0).within.sized
 
-      pub searching-full : d.step ≡ Full → {p : List ℕ} → p ≡ next.periods.items → {k : ℕ} → k ≡ next.cost
-          → {r : Answer} → r ≡ record { fault = fault 34 0; cost = k; rounds = n; bound = d.node.cost }
-          → Ends (searched (weights ts) goal) p r
-      searching-full e ep ek er =
+      pub searching-full : d.step ≡ Full → {p : List ℕ} → p ≡ next.periods.items
+          → {c : Conclusion} → c ≡ Stopped Room next.cost n d.node.cost → Ends (searched (weights ts) goal) p (conclusion_answer c)
+      searching-full e ep ec =
           rw (running-full g.looping.running (omega arith) (open_nodes nodes') (rw e at y.goes), ← improved-is)
-          (record { answer = rw (er, ek, improved-costs, y.costs, en); periods = ep })
+          (record { answer = rw (ec, improved-costs, y.costs, en); periods = ep })
 
       pub searching-on : d.step ≡ Listed → Searching ts goal budget nodes' next n
       searching-on e = record {

@@ -116,17 +116,13 @@ exact_outcome_of f ts budget space work =
     let e = search_by ts (exact_schedulable ts) budget (room_of ts work) in
     exact_called f ts space work (searched (weights ts) e)
 
--- an outcome of tasks, and another that it is where none has jitter
-abbrev pub AtExactRelease : List Task → Outcome → Outcome → Type 0
-AtExactRelease ts x y = WithoutJitter ts → x ≡ y
-
 -- CHEAPEST, of a file's fault and tasks
 pub record Plans (f : Fault) (ts : List Task) (budget : ℕ) (o o' w w' : List ℕ) (r : Answer) : Type 0 where
   pub answers : Answers (outcome_of f ts budget (length o) (length w)) o o' w w' r
   -- demand 3
   pub settles : passed (call_fault f ts (length o) (length w)) ≡ true
       → Settles ts budget (room_of ts (length w)) r o'
-  -- and a schedulable assignment with a stop
+  -- and what a stop gives besides
   pub improves : passed (call_fault f ts (length o) (length w)) ≡ true → Improves ts r o'
   -- "Exact release in 01 is now the case of late 0."
   pub exact_release : WithoutJitter ts

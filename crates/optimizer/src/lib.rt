@@ -5,7 +5,7 @@ mod errors; // errors.rt: why a call is refused
 mod conclusion; // conclusion.rt: how a search ends, and in numbers
 mod order; // order.rt: cost and order of period assignments
 mod nodes; // nodes.rt: open nodes in the lent work space
-mod incumbent; // incumbent.rt: the best of the nodes' lowerings so far
+mod incumbent; // incumbent.rt: the least schedulable assignment so far
 mod children; // children.rt: which children of a node are dropped, and the listing of the others
 mod round; // round.rt: one round
 mod search; // search.rt: the rounds

@@ -1,6 +1,7 @@
 ghost use Rattle.std.specs.Prelude.{◌≡◌, length};
 ghost use Rattle.plan.specs.Tasks.{weights};
 ghost use Rattle.plan.specs.Promises.{plan_tasks};
+ghost use Rattle.optimizer.specs.declared.conclusion.Conclusion.TheVariants.{Answered, Stopped};
 ghost use Rattle.optimizer.specs.Answers.{conclusion_answer};
 ghost use Rattle.optimizer.specs.Search.{search};
 ghost use Rattle.optimizer.specs.Promises.{room_of, searched};
@@ -13,18 +14,36 @@ use super::round::{Round, Step, run_round};
 use boundary::Node;
 use plan::Plan;
 
-// A node's periods go into their space. Its cost.
-fn write(node: &Node, periods: &mut [u32]) -> u64
+// An answer: the node's periods go into their space.
+fn answered(node: &Node, periods: &mut [u32], rounds: u64) -> Conclusion
     requires { length periods.old ≡ length node.now.periods.items }
-    ensures cost { result ≡ node.now.cost }
+    ensures is { result ≡ Answered node.now.cost rounds }
     ensures written { periods.new ≡ node.now.periods.items }
 {
     periods.copy_from_slice(&node.periods);
-    node.cost
+    Conclusion::Answered {
+        cost: node.cost,
+        rounds,
+    }
+}
+
+// A stop: the incumbent's periods go into their space.
+fn stopped(stop: Stop, incumbent: &Node, periods: &mut [u32], rounds: u64, bound: u64) -> Conclusion
+    requires { length periods.old ≡ length incumbent.now.periods.items }
+    ensures is { result ≡ Stopped stop incumbent.now.cost rounds bound }
+    ensures written { periods.new ≡ incumbent.now.periods.items }
+{
+    periods.copy_from_slice(&incumbent.periods);
+    Conclusion::Stopped {
+        stop,
+        cost: incumbent.cost,
+        rounds,
+        bound,
+    }
 }
 
 // The rounds. The open nodes never run out: the longest periods are schedulable and dominate one of them. The periods'
-// space is written once, at the end: with the answer's periods, or at a stop with the incumbent's.
+// space is written once, at the end.
 pub fn search(plan: &Plan, budget: u64, periods: &mut [u32], work: &mut [u32]) -> Conclusion
     requires { Searchable (plan_tasks plan.now) periods.old work.old }
     ensures { let ts = plan_tasks plan.now in
@@ -36,25 +55,18 @@ pub fn search(plan: &Plan, budget: u64, periods: &mut [u32], work: &mut [u32]) -
     for rounds in 1..=budget {
         let Round { step, node } = run_round(plan, &mut nodes);
         if step == Step::Answered {
-            return Conclusion::Answered {
-                cost: write(&node, periods),
-                rounds,
-            };
+            return answered(&node, periods, rounds);
         }
         incumbent::improve(plan, &mut incumbent, &node);
         if step == Step::Full {
-            return Conclusion::Stopped {
-                stop: Stop::Room,
-                cost: write(&incumbent, periods),
-                rounds,
-                bound: node.cost,
-            };
+            return stopped(Stop::Room, &incumbent, periods, rounds, node.cost);
         }
     }
-    Conclusion::Stopped {
-        stop: Stop::Budget,
-        cost: write(&incumbent, periods),
-        rounds: budget,
-        bound: nodes.least().cost,
-    }
+    stopped(
+        Stop::Budget,
+        &incumbent,
+        periods,
+        budget,
+        nodes.least().cost,
+    )
 }

@@ -1,4 +1,4 @@
-use Rattle.std.proofs.Common.{◌≡◌, ℕ, List, arith, rules, refl, suc, sym, length, ◌+◌, ◌-◌, ◌≤◌, subst, ◌∙◌}
+use Rattle.std.proofs.Common.{◌≡◌, ℕ, List, arith, rules, suc, sym, length, ◌+◌, ◌-◌, ◌≤◌, subst, ◌∙◌}
 use Rattle.plan.specs.declared.tasks.Task.{Task}
 use Rattle.plan.specs.Promises.{plan_tasks}
 use Rattle.boundary.specs.declared.node.Node.{Node}
@@ -23,8 +23,8 @@ loop-rounds-init c = searches c.args.plan.now.valid c.requires c.args.budget c.s
 pub run_round-step-requires : goal.run_round-step-requires
 run_round-step-requires c = searching-ready c.loop-rounds.invariant
 
-pub write-requires : goal.write-requires
-write-requires c =
+pub answered-requires : goal.answered-requires
+answered-requires c =
     let d = c.run_round-step.ensures in
     c.loop-rounds.auto.periods ∙ c.requires.sized
     ∙ sym (node-sized c.loop-rounds.invariant (after (omega arith)) (omega arith) d.same d.rounds)
@@ -34,15 +34,15 @@ returns-then-eq c =
     let d = c.run_round-step.ensures in
     let step : c.run_round-step.result.step ≡ Answered = search rules in
     searching-answered c.loop-rounds.invariant (after (omega arith)) (omega arith) d.same d.rounds step
-    c.write.ensures.written c.write.ensures.cost refl
+    c.answered.ensures.written c.answered.ensures.is
 
 pub improve-requires : goal.improve-requires
 improve-requires c =
     let d = c.run_round-step.ensures in
     searching-improves c.loop-rounds.invariant (after (omega arith)) (omega arith) d.same d.rounds c.requires
 
-pub write-requires-then-eq-2 : goal.write-requires-then-eq-2
-write-requires-then-eq-2 c =
+pub stopped-requires : goal.stopped-requires
+stopped-requires c =
     let d = c.run_round-step.ensures in
     let step : c.run_round-step.result.step ≡ Full = search rules in
     c.loop-rounds.auto.periods ∙ c.requires.sized
@@ -53,7 +53,7 @@ returns-then-eq-2 c =
     let d = c.run_round-step.ensures in
     let step : c.run_round-step.result.step ≡ Full = search rules in
     searching-full c.loop-rounds.invariant (after (omega arith)) (omega arith) d.same d.rounds c.improve.ensures step
-    c.write-then-eq-2.ensures.written c.write-then-eq-2.ensures.cost refl
+    c.stopped.ensures.written c.stopped.ensures.is
 
 pub loop-rounds-preserved : goal.loop-rounds-preserved
 loop-rounds-preserved c =
@@ -81,14 +81,14 @@ left c = elim c.loop-rounds-test.branch [
       (omega arith) w.nodes-is w.incumbent-is
 ]
 
-pub write-requires-2 : goal.write-requires-2
-write-requires-2 c =
-    c.loop-rounds.auto.periods ∙ c.requires.sized ∙ sym (incumbent-sized (left (goal.at.write-requires-2 c).Left-loop-rounds))
+pub stopped-requires-2 : goal.stopped-requires-2
+stopped-requires-2 c =
+    c.loop-rounds.auto.periods ∙ c.requires.sized ∙ sym (incumbent-sized (left (goal.at.stopped-requires-2 c).Left-loop-rounds))
 
 pub least-requires : goal.least-requires
 least-requires c = (searching-ready (left (goal.at.least-requires c).Left-loop-rounds)).some
 
 pub returns : goal.returns
 returns c =
-    searching-spent (left (goal.at.returns c).Left-loop-rounds) (omega arith) c.write-2.ensures.written c.write-2.ensures.cost
-    c.least.ensures.costs refl
+    searching-spent (left (goal.at.returns c).Left-loop-rounds) (omega arith) c.stopped-2.ensures.written c.least.ensures.costs
+    c.stopped-2.ensures.is
