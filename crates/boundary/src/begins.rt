@@ -1,10 +1,9 @@
 ghost use Rattle.std.specs.Prelude.{◌≡◌, ◌≤◌};
-ghost use Rattle.plan.specs.Tasks.{Valid};
-ghost use Rattle.plan.specs.Promises.{plan_tasks};
+ghost use Rattle.plan.specs.Tasks.{Valid, AllValid};
 ghost use Rattle.response.specs.Analysis.{max_response};
 ghost use Rattle.boundary.specs.Inner.{begin_at, begin_below, BeginsBelow};
 
-use plan::{Plan, Task};
+use plan::Task;
 use response::own_demand;
 
 // Where the climbs of a task may begin, the busy period of a task above it being known: its own is no shorter than
@@ -23,13 +22,14 @@ pub fn begin_below(task: &Task, above: &Task, busy: u32) -> u32
 
 // The same of task i and the task right above it; of the first task, which has none above, its own demand: the time is
 // left unread. No Option of a time: where periods are raised, none says that a task above misses.
-pub fn begin_at(plan: &Plan, i: usize, above: u32) -> u32
-    requires { BeginsBelow (plan_tasks plan.now) i above }
-    ensures { result ≡ begin_at (plan_tasks plan.now) i above }
+pub fn begin_at(tasks: &[Task], i: usize, above: u32) -> u32
+    requires valid { AllValid tasks.now }
+    requires begins { BeginsBelow tasks.now i above }
+    ensures { result ≡ begin_at tasks.now i above }
 {
-    let task = &plan.tasks[i];
+    let task = &tasks[i];
     if i == 0 {
         return own_demand(task);
     }
-    begin_below(task, &plan.tasks[i - 1], above)
+    begin_below(task, &tasks[i - 1], above)
 }

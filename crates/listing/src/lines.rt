@@ -25,7 +25,8 @@ fn refusal(fault: Fault, end: u8) -> Listing
 
 // A refusal's line.
 pub fn list_refusal(fault: Fault) -> Listing
-    ensures { result.items ≡ line (refusal_fields fault) }
+    ensures is { result.items ≡ line (refusal_fields fault) }
+    ensures few { length result.items ≤ 50 }
 {
     refusal(fault, b'\n')
 }
@@ -53,7 +54,7 @@ fn put_task(text: &mut Listing, name: &[u8], period: u32, time: u32)
 }
 
 // The lines of a file's tasks at given periods: an answer's, at which every task responds; 0 would stand for none.
-// Periods are lent, and no `Assignment`: in place of their limits it would be asked that its plan is the file's.
+// Periods are lent, and no `Assignment`: in place of their limits it would be asked that its tasks are the file's.
 fn put_tasks(text: &mut Listing, file: &PlanFile, periods: &[u32])
     requires room { length text.old.items + line_size * max_tasks ≤ listing_size }
     requires limits { Limits (plan_tasks file.now.plan) periods.now }
@@ -61,7 +62,7 @@ fn put_tasks(text: &mut Listing, file: &PlanFile, periods: &[u32])
         text.new.items ≡ text.old.items ++ task_lines s xs (length xs) }
 {
     let assignment = Assignment {
-        plan: &file.plan,
+        tasks: &file.plan.tasks,
         periods,
     };
     for (i, &period) in periods.iter().enumerate() {

@@ -48,7 +48,7 @@ pub fn check_feasible(plan: &Plan) -> Result<(), CallError>
     check_alone(plan)?;
     let longest = plan.column(|task| task.period_max);
     let assignment = Assignment {
-        plan,
+        tasks: &plan.tasks,
         periods: &longest,
     };
     match assignment.first_unschedulable() {

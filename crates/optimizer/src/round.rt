@@ -34,7 +34,7 @@ pub fn run_round(plan: &Plan, nodes: &mut OpenNodes) -> Round
 {
     let node = nodes.take_least();
     let assignment = Assignment {
-        plan,
+        tasks: &plan.tasks,
         periods: &node.periods,
     };
     let step = if assignment.is_schedulable() {

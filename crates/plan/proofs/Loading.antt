@@ -8,6 +8,7 @@ use lib.Dec.{eqb}
 use lib.ListN.{length}
 use borrow.Author.Tests.{ne_eqb}
 use Rattle.std.specs.Prelude.{Err}
+use Rattle.plan.specs.TaskSets.{tasks_in}
 use Rattle.plan.specs.declared.errors.ReadError.{ReadError}
 use Rattle.plan.specs.Errors.{read_error_fault}
 use Rattle.plan.specs.declared.tasks.Task.{Task}
@@ -49,7 +50,7 @@ module _ (s : List ℕ) {located : List ℕ} {ts : List Task} (same : located �
   pub valid-read : AllValid ts
   valid-read = rw tasks-are (accepted-valid s)
 
-  pub loads-plan : (p : Plan) → p.tasks.items ≡ ts → Loads s p
+  pub loads-plan : (p : Plan) → tasks_in p.tasks ≡ ts → Loads s p
   loads-plan p e = record { accepts = accepts; tasks = e ∙ tasks-are }
 
 -- a file that broke one, as an error says
@@ -64,5 +65,5 @@ module _ (s : List ℕ) (e : ReadError) (refuses : read_error_fault e ≡ file_f
   read_refused = rw (refuses, refused-tasks s unaccepted)
 
 -- how many tasks a loaded plan has
-pub loaded-count : {s : List ℕ} {p : Plan} → Loads s p → length p.tasks.items ≡ task_count s
+pub loaded-count : {s : List ℕ} {p : Plan} → Loads s p → length (tasks_in p.tasks) ≡ task_count s
 loaded-count {s} l = ap length l.tasks ∙ tasks-length s l.accepts

@@ -6,6 +6,7 @@ pub mod Errors
 pub mod Words
 pub mod Layout
 pub mod Tasks
+pub mod TaskSets
 pub mod Names
 pub mod Files
 pub mod Canonical

@@ -6,6 +6,7 @@ use Rattle.plan.specs.declared.errors.WriteError.{WriteError}
 use Rattle.plan.specs.declared.errors.WriteError.TheVariants.{Read as Unread, SpaceLength}
 use Rattle.plan.specs.declared.tasks.Task.{Task}
 use Rattle.plan.specs.declared.record.Plan.{Plan}
+use Rattle.plan.specs.TaskSets.{tasks_in}
 use Rattle.plan.specs.Faults.{none, fault_if, passed, or_else}
 use Rattle.plan.specs.Errors.{read_error_fault, write_error_fault}
 use Rattle.plan.specs.Layout.{header_width, version, rows_at, rows_end_of, names_at, names_end_of}
@@ -88,7 +89,7 @@ pub record Writes (s o o' : List ℕ) (r : Written) : Type 0 where
 
 -- the tasks of a plan record
 abbrev pub plan_tasks : Plan → List Task
-plan_tasks p = p.tasks.items
+plan_tasks p = tasks_in p.tasks
 
 -- a plan loaded, for the layers above: the tasks of an accepted file
 pub record Loads (s : List ℕ) (p : Plan) : Type 0 where

@@ -15,15 +15,22 @@ pub const HEADER_WIDTH: usize = 16;
 
 pub const NAME_WIDTH: usize = 16;
 
+// Where an area begins, and where it ends. Not a `Range`, which is no `Copy`.
+#[derive(Clone, Copy, Debug, PartialEq, Eq)]
+pub struct Area {
+    pub start: usize,
+    pub end: usize,
+}
+
 // Where a file's rows and names are, of which version and how wide a row is, and how many tasks there are. The version
 // is the file's number, of which every clause speaks: an enum would be turned back into it there.
-#[derive(Clone, Debug, Drop)]
+#[derive(Clone, Copy, Debug, PartialEq, Eq)]
 pub struct Areas {
     pub version: u16,
     pub tasks: usize,
     pub row_width: usize,
-    pub rows: Range<usize>,
-    pub names: Range<usize>,
+    pub rows: Area,
+    pub names: Area,
 }
 
 // Rules 1 to 4.
@@ -68,13 +75,13 @@ pub fn rows_size(version: u16, tasks: usize) -> usize
     row_size(version) * tasks
 }
 
-fn is_outside(area: &Range<usize>, total: usize) -> bool
+fn is_outside(area: &Area, total: usize) -> bool
     ensures { result ≡ outside total area.now.start area.now.end }
 {
     area.start < HEADER_WIDTH || total < area.end
 }
 
-fn overlap(a: &Range<usize>, b: &Range<usize>) -> bool
+fn overlap(a: &Area, b: &Area) -> bool
     ensures { result ≡ overlap a.now.start a.now.end b.now.start b.now.end }
 {
     a.start < b.end && b.start < a.end
@@ -91,9 +98,15 @@ pub fn layout_of(file: &[u8]) -> Result<Located<'_>, ReadError>
     let version = word2_at(file, 0);
     let tasks = word2_at(file, 2) as usize;
     let rows_at = word4_at(file, 4) as usize;
-    let rows = rows_at..rows_at + rows_size(version, tasks);
+    let rows = Area {
+        start: rows_at,
+        end: rows_at + rows_size(version, tasks),
+    };
     let names_at = word4_at(file, 8) as usize;
-    let names = names_at..names_at + NAME_WIDTH * tasks;
+    let names = Area {
+        start: names_at,
+        end: names_at + NAME_WIDTH * tasks,
+    };
     if is_outside(&rows, total) {
         return Err(ReadError::RowsOutside);
     }

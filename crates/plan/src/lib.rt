@@ -5,6 +5,7 @@ mod faults; // faults.rt: a refusal's number and place
 mod errors; // errors.rt: why a file is refused, or its form not written
 mod words; // words.rt: little-endian numbers
 mod tasks; // tasks.rt: one task
+mod task_set; // task_set.rt: the tasks of a plan, before any rule
 mod record; // record.rt: the plan record and its limits
 mod layout; // layout.rt: header, areas and gaps
 mod located; // located.rt: a file and its areas
@@ -24,5 +25,6 @@ pub use writer::write_plan;
 pub use plan_file::PlanFile;
 pub use reader::load_plan;
 pub use record::{PerTask, Plan};
+pub use task_set::TaskSet;
 pub use tasks::Task;
 pub use words::{put_bytes, put_words};

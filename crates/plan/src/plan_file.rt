@@ -4,7 +4,7 @@ use super::located::Located;
 use super::record::Plan;
 
 // A plan file that its rules let pass, located, and its plan.
-#[derive(Drop)]
+#[derive(Clone, Copy)]
 pub struct PlanFile<'f> {
     pub located: Located<'f>,
     pub plan: Plan,

@@ -9,19 +9,23 @@ use super::located::Located;
 use super::names::{name_length, name_ok};
 use super::plan_file::PlanFile;
 use super::record::Plan;
+use super::task_set::TaskSet;
 use super::tasks::Task;
-use arrayvec::ArrayVec;
 
 impl Located<'_> {
     ghost use Rattle.plan.specs.Files.{tasks_fault};
+    ghost use Rattle.plan.specs.TaskSets.{tasks_in};
     ghost use Rattle.plan.specs.Inner.{Decodes};
 
     // Rules 8 to 10, task by task. A row that cannot be read is taken apart by let .. else, as the requirement has it.
-    fn decode_tasks(&self) -> Result<ArrayVec<Task, { Plan::MAX_TASKS }>, ReadError>
+    fn decode_tasks(&self) -> Result<TaskSet, ReadError>
         ensures refuses { read_fault result ≡ tasks_fault self.now.file.now }
-        ensures decodes { IfOk result (λ tasks. Decodes self.now.file.now tasks.items) }
+        ensures decodes { IfOk result (λ tasks. Decodes self.now.file.now (tasks_in tasks)) }
     {
-        let mut tasks = ArrayVec::new();
+        let mut tasks = TaskSet {
+            rows: [Task::default(); Plan::MAX_TASKS],
+            count: 0,
+        };
         for i in 0..self.areas.tasks {
             let row = self.row(i);
             let Ok(task) = row else {

@@ -1,7 +1,9 @@
 ghost use Rattle.std.specs.Prelude.{◌≡◌, ◌≤◌, length};
 ghost use Rattle.std.specs.List.{AllZip};
 ghost use Rattle.plan.specs.Tasks.{max_tasks, AllValid};
+ghost use Rattle.plan.specs.TaskSets.{tasks_in};
 
+use super::task_set::TaskSet;
 use super::tasks::Task;
 use arrayvec::ArrayVec;
 
@@ -9,12 +11,12 @@ use arrayvec::ArrayVec;
 pub type PerTask = ArrayVec<u32, { Plan::MAX_TASKS }>;
 
 // A plan that the rules of a file let pass: the tasks, highest priority first.
-#[derive(Drop)]
+#[derive(Clone, Copy)]
 pub struct Plan {
-    pub tasks: ArrayVec<Task, { Plan::MAX_TASKS }>,
-    ghost some: { 1 ≤ length tasks.items },
-    ghost few: { length tasks.items ≤ max_tasks },
-    ghost valid: { AllValid tasks.items },
+    pub tasks: TaskSet,
+    ghost some: { 1 ≤ length (tasks_in tasks) },
+    ghost few: { length (tasks_in tasks) ≤ max_tasks },
+    ghost valid: { AllValid (tasks_in tasks) },
 }
 
 impl Plan {
@@ -39,9 +41,9 @@ impl Plan {
     pub const MAX_FORM: usize = 720;
 
     // The constructor that the requirement wants on the plan type; it asks for the type's own facts.
-    pub fn new(tasks: ArrayVec<Task, { Plan::MAX_TASKS }>) -> Plan
-        requires some { 1 ≤ length tasks.items }
-        requires valid { AllValid tasks.items }
+    pub fn new(tasks: TaskSet) -> Plan
+        requires some { 1 ≤ length (tasks_in tasks) }
+        requires valid { AllValid (tasks_in tasks) }
         ensures { result.tasks ≡ tasks }
     {
         Plan { tasks }
@@ -50,12 +52,8 @@ impl Plan {
     // A number of each task.
     pub fn column<F: Fn(Task) -> u32>(&self, number: F) -> PerTask
         requires { F.IsAlwaysCallable number }
-        ensures { AllZip (F.post number) self.now.tasks.items result.items }
+        ensures { AllZip (F.post number) (tasks_in self.now.tasks) result.items }
     {
-        let mut column = PerTask::new();
-        for task in self.tasks.iter() {
-            column.push(number(*task));
-        }
-        column
+        self.tasks.column(number)
     }
 }

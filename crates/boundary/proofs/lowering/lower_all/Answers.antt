@@ -7,8 +7,8 @@ use Rattle.boundary.proofs.lowering.lower_all.Goals as goal
 
 pub loop-i-init : goal.loop-i-init
 loop-i-init c =
-    let p = c.args.plan.now in
-    lowering-start p.some p.few p.valid c.requires.0 c.lowest_start-start.ensures c.requires.1
+    let t = c.requires.tasks in
+    lowering-start t.0 t.1.0 t.1.1 c.requires.lowers.0 c.lowest_start-start.ensures c.requires.lowers.1
 
 pub invariant_of-assignment : goal.invariant_of-assignment
 invariant_of-assignment c = record { limits = lowering-limits c.loop-i.invariant }
@@ -33,10 +33,9 @@ overflow_add-cost c =
     let g = c.loop-i.invariant in
     let node = c.deref-least-items.ensures.0 in
     let own = found-some _ (sym (rw c.last_end.ensures at c.busy_from.ensures) ∙ c.unwrap-own.ensures) in
-    let weight = rw c.deref.ensures.0 at c.from.ensures in
     let step : c.from.result * c.from-in-loop-i.result ≤ max_weight * max_ticks =
     rw (c.from-in-loop-i.ensures, node)
-    (step_small g (rw node at c.loop-i-test.true) own.0 (rw node at c.last_miss_from-miss.ensures.is) weight) in
+    (step_small g (rw node at c.loop-i-test.true) own.0 (rw node at c.last_miss_from-miss.ensures.is) c.from.ensures) in
     omega (arith, total-small g)
 
 pub returns-then-limit-cost : goal.returns-then-limit-cost
@@ -44,10 +43,9 @@ returns-then-limit-cost c =
     let e = c.last_miss_from-miss.ensures in
     let node = c.deref-least-items.ensures.0 in
     let own = found-some _ (sym (rw c.last_end.ensures at c.busy_from.ensures) ∙ c.unwrap-own.ensures) in
-    let weight = rw c.deref.ensures.0 at c.from.ensures in
     let longer = rw node at c.from-in-loop-i.ensures in
     let inside = rw node at c.loop-i-test.true in
-    let next = lowering-on c.loop-i.invariant inside own.0 (rw node at e.is) e.begins e.moved weight longer in
+    let next = lowering-on c.loop-i.invariant inside own.0 (rw node at e.is) e.begins e.moved c.from.ensures longer in
     lowers-past next c.if-limit-cost.true
 
 pub loop-i-preserved : goal.loop-i-preserved
@@ -55,10 +53,9 @@ loop-i-preserved c =
     let e = c.last_miss_from-miss.ensures in
     let node = c.deref-least-items.ensures.0 in
     let own = found-some _ (sym (rw c.last_end.ensures at c.busy_from.ensures) ∙ c.unwrap-own.ensures) in
-    let weight = rw c.deref.ensures.0 at c.from.ensures in
     let longer = rw node at c.from-in-loop-i.ensures in
     let inside = rw node at c.loop-i-test.true in
-    lowering-on c.loop-i.invariant inside own.0 (rw node at e.is) e.begins e.moved weight longer
+    lowering-on c.loop-i.invariant inside own.0 (rw node at e.is) e.begins e.moved c.from.ensures longer
 
 pub returns : goal.returns
 returns c = lowering-end c.loop-i.invariant (rw c.deref-least-items.ensures.0 at c.loop-i-test.false)

@@ -1,5 +1,4 @@
 use Rattle.std.proofs.Common.{◌+◌, ◌≤◌, sym, refl, ◌∙◌, arith}
-use Rattle.plan.specs.Promises.{plan_tasks}
 use Rattle.plan.specs.Tasks.{task_at}
 use Rattle.response.proofs.Found.{found-none, found-some}
 use Rattle.boundary.proofs.OnePeriod.{alike-is}
@@ -18,15 +17,15 @@ pub overflow_add-begin : goal.overflow_add-begin
 overflow_add-begin c =
     let found = found-some _ (sym c.busy_from.ensures ∙ c.in-Some.is) in
     let small = probing-small c.loop-last.invariant c.probe-period.ensures found.0 found.1 in
-    let task = c.args.plan.now.valid c.args.i (omega (arith, c.requires.range.inside, c.requires.range.limits.sized)) in
-    rw c.deref.ensures.0 (omega (arith, small, task.wcet_most))
+    let task = c.requires.range.limits.valid c.args.i (omega (arith, c.requires.range.inside, c.requires.range.limits.sized)) in
+    omega (arith, small, task.wcet_most)
 
 pub overflow_add-window : goal.overflow_add-window
 overflow_add-window c =
     let found = found-some _ (sym c.busy_from.ensures ∙ c.in-Some.is) in
     let small = probing-small c.loop-last.invariant c.probe-period.ensures found.0 found.1 in
-    let task = c.args.plan.now.valid c.args.i (omega (arith, c.requires.range.inside, c.requires.range.limits.sized)) in
-    rw c.deref.ensures.0 (omega (arith, small, task.jitter_most))
+    let task = c.requires.range.limits.valid c.args.i (omega (arith, c.requires.range.inside, c.requires.range.limits.sized)) in
+    omega (arith, small, task.jitter_most)
 
 pub loop-last-preserved : goal.loop-last-preserved
 loop-last-preserved c =
@@ -37,11 +36,11 @@ loop-last-preserved c =
           (probing-miss g p refl (found-none _ (sym c.busy_from.ensures ∙ w.in-None.is)))
       | in-Some w ↦
           let found = found-some _ (sym c.busy_from.ensures ∙ w.in-Some.is) in
-          let window = w.in-Some.found + (task_at (plan_tasks c.args.plan.now) c.args.i).jitter in
+          let window = w.in-Some.found + (task_at c.args.tasks.now c.args.i).jitter in
           let some : 1 ≤ window = omega (arith, found.1) in
-          let found-high = rw (w.div_ceil.ensures, c.deref.ensures.0) at w.div_ceil-high.ensures in
+          let found-high = rw w.div_ceil.ensures at w.div_ceil-high.ensures in
           let high = w.high-is ∙ found-high ∙ alike-is window _ some (probing-period g p).0 in
-          rw (w.last-is, w.busy-is, w.begin-is, c.deref.ensures.0, high) (probing-meet g p found.0 found.1)
+          rw (w.last-is, w.busy-is, w.begin-is, high) (probing-meet g p found.0 found.1)
     ]
 
 pub returns-clause-is : goal.returns-clause-is

@@ -4,11 +4,9 @@ use Rattle.boundary.proofs.misses.last_miss_between.Goals as goal
 
 pub last_miss-miss-requires : goal.last_miss-miss-requires
 last_miss-miss-requires c =
-    let own = rw c.deref-in-loop-j.ensures.0 at c.own_demand-own-then-not-settles.ensures in
-    between-seeks c.loop-j.invariant (omega arith) own
+    between-seeks c.loop-j.invariant (omega arith) c.own_demand-own-then-not-settles.ensures
 
 pub loop-j-preserved-then-not-settles : goal.loop-j-preserved-then-not-settles
 loop-j-preserved-then-not-settles c =
     let e = c.last_miss-miss.ensures in
-    let own = rw c.deref-in-loop-j.ensures.0 at c.own_demand-own-then-not-settles.ensures in
-    between-sought c.loop-j.invariant (omega arith) e.is e.responds e.moved own
+    between-sought c.loop-j.invariant (omega arith) e.is e.responds e.moved c.own_demand-own-then-not-settles.ensures

@@ -3,22 +3,20 @@ use Rattle.boundary.proofs.Missing.{begins-past, from-small, from-begins, from-b
 use Rattle.boundary.proofs.misses.last_miss_from.Goals as goal
 
 pub overflow_add-own : goal.overflow_add-own
-overflow_add-own c = rw c.deref.ensures.0 (omega (arith, from-small c.requires))
+overflow_add-own c = omega (arith, from-small c.requires)
 
 pub returns-then-lowest-i-clause-is : goal.returns-then-lowest-i-clause-is
-returns-then-lowest-i-clause-is c = from-alone c.requires (rw c.deref.ensures.0 at c.max-from.ensures) c.if-lowest-i.true
+returns-then-lowest-i-clause-is c = from-alone c.requires c.max-from.ensures c.if-lowest-i.true
 
 pub returns-then-lowest-i-clause-begins : goal.returns-then-lowest-i-clause-begins
 returns-then-lowest-i-clause-begins c = begins-past c.requires.range c.requires.begins _
 
 pub begin_below-begin-requires : goal.begin_below-begin-requires
-begin_below-begin-requires c = rw c.deref-2.ensures.0 (from-begins c.requires c.if-lowest-i.false)
+begin_below-begin-requires c = from-begins c.requires c.if-lowest-i.false
 
 pub last_miss_below-requires : goal.last_miss_below-requires
 last_miss_below-requires c =
-    let from = rw c.deref.ensures.0 at c.max-from.ensures in
-    let begin = rw (c.deref.ensures.0, c.deref-2.ensures.0) at c.begin_below-begin.ensures in
-    rw c.max.ensures (from-below c.requires from c.if-lowest-i.false begin)
+    rw c.max.ensures (from-below c.requires c.max-from.ensures c.if-lowest-i.false c.begin_below-begin.ensures)
 
 pub returns-clause-is : goal.returns-clause-is
-returns-clause-is c = from_last c.requires (rw c.deref.ensures.0 at c.max-from.ensures) c.last_miss_below.ensures.is
+returns-clause-is c = from_last c.requires c.max-from.ensures c.last_miss_below.ensures.is

@@ -22,9 +22,9 @@ pub returns-clause-responds : goal.returns-clause-responds
 returns-clause-responds c =
     let found = found-some _ (sym (rw c.last_end.ensures at c.busy_from.ensures) ∙ c.in_ok-own.was) in
     let e = c.last_miss_from-miss.ensures in
-    rw c.deref.ensures.0 at c.then_some.ensures ∙ (raised-last c.requires found.0 found.1 e.is e.moved).1
+    c.then_some.ensures ∙ (raised-last c.requires found.0 found.1 e.is e.moved).1
 
 pub overflow_add-own : goal.overflow_add-own
 overflow_add-own c =
     let found = found-some _ (sym (rw c.last_end.ensures at c.busy_from.ensures) ∙ c.in_ok-own.was) in
-    rw c.deref.ensures.0 (omega (arith, raises-small c.requires found.0 found.1))
+    omega (arith, raises-small c.requires found.0 found.1)

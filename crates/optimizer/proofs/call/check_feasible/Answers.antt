@@ -15,7 +15,7 @@ invariant_of-assignment c =
     let longest : c.column-longest.result.items ≡ period_maxs (plan_tasks c.args.plan.now) =
     column-is (λ t. t.period_max) (λ t x k. search rules) _ _ c.column-longest.ensures in
     record {
-      limits = rw (c.deref.ensures.0, longest)
+      limits = rw (c.deref.ensures.0, c.deref-2.ensures.0, longest)
           (longest-limits (plan_tasks c.args.plan.now) c.args.plan.now.valid c.args.plan.now.few);
     }
 
@@ -24,11 +24,11 @@ returns-in-Some c =
     let longest : c.column-longest.result.items ≡ period_maxs (plan_tasks c.args.plan.now) =
     column-is (λ t. t.period_max) (λ t x k. search rules) _ _ c.column-longest.ensures in
     is_none (plan_tasks c.args.plan.now) c.in_ok-check_alone.ensures
-    (rw (c.deref.ensures.0, longest) at (rw c.in-Some.is at c.first_unschedulable.ensures.first))
+    (rw (c.deref.ensures.0, c.deref-2.ensures.0, longest) at (rw c.in-Some.is at c.first_unschedulable.ensures.first))
 
 pub returns-in-None : goal.returns-in-None
 returns-in-None c =
     let longest : c.column-longest.result.items ≡ period_maxs (plan_tasks c.args.plan.now) =
     column-is (λ t. t.period_max) (λ t x k. search rules) _ _ c.column-longest.ensures in
     is-feasible (plan_tasks c.args.plan.now) c.in_ok-check_alone.ensures
-    (rw (c.deref.ensures.0, longest) at (rw c.in-None.is at c.first_unschedulable.ensures.first))
+    (rw (c.deref.ensures.0, c.deref-2.ensures.0, longest) at (rw c.in-None.is at c.first_unschedulable.ensures.first))

@@ -1,5 +1,6 @@
 use Rattle.std.proofs.Common.{arith, ap}
 use Rattle.std.proofs.lemmas.Result.{err_from_is_err_and}
+use Rattle.plan.specs.TaskSets.{tasks_in}
 use Rattle.plan.proofs.Numbers.{read_error_first}
 use Rattle.plan.proofs.Loading.{file_rules, no-fault, some-read, valid-read, loads-plan}
 use Rattle.plan.proofs.reader.load_plan.Goals as goal
@@ -57,7 +58,7 @@ invariant_of-result c =
     (record {
       loads = loads-plan c.args.file.now same c.in_ok-located.ensures.refuses c.in_ok-check_gaps.ensures
           c.in_ok-tasks.ensures.refuses c.in_ok-check_same_names.ensures c.in_ok-tasks.ensures.decodes c.new-plan.result
-          (ap (λ v. v.items) c.new-plan.ensures);
+          (ap (λ v. tasks_in v) c.new-plan.ensures);
     })
 
 pub returns-clause-refuses : goal.returns-clause-refuses

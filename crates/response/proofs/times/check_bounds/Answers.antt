@@ -7,7 +7,7 @@ use Rattle.std.proofs.lemmas.Iterator.{YieldsList-from_slice, YieldsList-from_zi
 use Rattle.std.proofs.lemmas.Iterator.Consumers.{YieldsList-from_enumerate, YieldsList-turn, YieldsList-end}
 use Rattle.std.proofs.lemmas.Slice.Zip.{length-zip, get_or-zip}
 use Rattle.plan.specs.declared.tasks.Task.{Task}
-use Rattle.plan.specs.Promises.{plan_tasks}
+use Rattle.plan.specs.TaskSets.{tasks_in}
 use Rattle.plan.specs.Tasks.{between, no_task, task_at}
 use Rattle.plan.proofs.Rules.{run-task, run-next, run_end}
 use Rattle.response.specs.Promises.{bound_fault}
@@ -39,7 +39,7 @@ turn {ts} {xs} {n} {i} {task} {period} z =
 
 pub returns-then-not-contains : goal.returns-then-not-contains
 returns-then-not-contains c =
-    let ts = plan_tasks c.args.plan.now in
+    let ts = tasks_in c.args.tasks.now in
     let xs = c.args.periods.now in
     let seen = c.loop-i.yielded in
     let task = c.in-Some.task.now in
@@ -56,7 +56,7 @@ returns-then-not-contains c =
 
 pub loop-i-preserved : goal.loop-i-preserved
 loop-i-preserved c =
-    let ts = plan_tasks c.args.plan.now in
+    let ts = tasks_in c.args.tasks.now in
     let xs = c.args.periods.now in
     let seen = c.loop-i.yielded in
     let item : ℕ × (Bor Task × Bor ℕ) = (c.in-Some.i, (c.in-Some.task, c.in-Some.period)) in
@@ -73,7 +73,7 @@ loop-i-preserved c =
 
 pub returns : goal.returns
 returns c =
-    let ts = plan_tasks c.args.plan.now in
+    let ts = tasks_in c.args.tasks.now in
     let xs = c.args.periods.now in
     let seen = c.loop-i.yielded in
     let road = YieldsList-from_enumerate {s = c.into_iter-i-iterator.result}

@@ -4,5 +4,5 @@ use Rattle.response.proofs.times.times_of.Goals as goal
 
 pub returns-clause-analyses : goal.returns-clause-analyses
 returns-clause-analyses c =
-    analysed refl c.in_ok-check_periods.ensures c.args.plan.now.valid refl c.analyse.ensures
+    analysed refl c.in_ok-check_periods.ensures c.args.plan.now.valid refl (rw c.deref.ensures.0 at c.analyse.ensures)
     (search (rules, tests))

@@ -18,7 +18,7 @@ returns-then-not-name_ok-clause-refuses c =
 pub push-requires : goal.push-requires
 push-requires c =
     let w = c.args.self.now.placed in
-    (omega arith, omega (arith, decoded-count c.loop-i.invariant, w.few, w.tasks))
+    omega (arith, decoded-count c.loop-i.invariant, w.few, w.tasks)
 
 pub loop-i-preserved : goal.loop-i-preserved
 loop-i-preserved c =

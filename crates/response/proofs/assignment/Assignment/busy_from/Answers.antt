@@ -1,12 +1,11 @@
 use Rattle.std.proofs.Common.{arith}
-use Rattle.plan.specs.Promises.{plan_tasks}
 use Rattle.response.proofs.Exactness.{own-some, past, stops, goes_on}
 use Rattle.response.proofs.assignment.Assignment.busy_from.Goals as goal
 
 pub returns-then-last-start : goal.returns-then-last-start
 returns-then-last-start c =
-    let plan = c.args.self.now.plan.now in
-    let works = own-some (plan_tasks plan) plan.valid c.args.i c.requires.inside in
+    let ts = c.args.self.now.tasks.now in
+    let works = own-some ts c.args.self.now.limits.valid c.args.i c.requires.inside in
     past works c.requires.begins (omega arith)
 
 pub loop-demand-preserved : goal.loop-demand-preserved
@@ -18,12 +17,12 @@ loop-demand-preserved c =
 
 pub returns-then-demand-from : goal.returns-then-demand-from
 returns-then-demand-from c =
-    let plan = c.args.self.now.plan.now in
-    let works = own-some (plan_tasks plan) plan.valid c.args.i c.requires.inside in
+    let ts = c.args.self.now.tasks.now in
+    let works = own-some ts c.args.self.now.limits.valid c.args.i c.requires.inside in
     stops works c.loop-demand.invariant.begins c.demand-demand.ensures (omega arith) (omega arith)
 
 pub returns-then-from-demand : goal.returns-then-from-demand
 returns-then-from-demand c =
-    let plan = c.args.self.now.plan.now in
-    let works = own-some (plan_tasks plan) plan.valid c.args.i c.requires.inside in
+    let ts = c.args.self.now.tasks.now in
+    let works = own-some ts c.args.self.now.limits.valid c.args.i c.requires.inside in
     past works (goes_on c.loop-demand.invariant.begins c.demand-demand.ensures (omega arith)) (omega arith)

@@ -2,7 +2,6 @@ use Rattle.std.proofs.Common.{◌≡◌, ◌<◌, length, take, ℕ, List, get_o
 use Rattle.std.proofs.lemmas.List.{get_or-take, length-take, length_push}
 use Rattle.std.proofs.lemmas.Slice.Zip.{zip_turn, zip_end}
 use Rattle.plan.specs.declared.tasks.Task.{Task}
-use Rattle.plan.specs.Promises.{plan_tasks}
 use Rattle.plan.specs.Tasks.{no_task, task_at}
 use Rattle.response.specs.Analysis.{demand}
 use Rattle.response.proofs.assignment.Assignment.demand.Goals as goal
@@ -27,7 +26,7 @@ turn ts xs i n task period z =
 
 pub interference-sum-requires : goal.interference-sum-requires
 interference-sum-requires c =
-    let ts = plan_tasks c.args.self.now.plan.now in
+    let ts = c.args.self.now.tasks.now in
     let xs = c.args.self.now.periods.now in
     let i = c.args.i in
     let seen = c.loop-task.yielded in
@@ -44,7 +43,7 @@ interference-sum-requires c =
 
 pub loop-task-preserved : goal.loop-task-preserved
 loop-task-preserved c =
-    let ts = plan_tasks c.args.self.now.plan.now in
+    let ts = c.args.self.now.tasks.now in
     let xs = c.args.self.now.periods.now in
     let i = c.args.i in
     let seen = c.loop-task.yielded in
@@ -58,7 +57,7 @@ loop-task-preserved c =
 pub returns : goal.returns
 unfolding demand
 returns c =
-    let ts = plan_tasks c.args.self.now.plan.now in
+    let ts = c.args.self.now.tasks.now in
     let xs = c.args.self.now.periods.now in
     let i = c.args.i in
     let seen = c.loop-task.yielded in

@@ -2,7 +2,6 @@ use Rattle.std.proofs.Common.{rules, tests, ◌≡◌, ◌≤◌, ◌<◌, lengt
 use Rattle.std.specs.Prelude.{MatchOption, IfSome}
 use Rattle.std.proofs.lemmas.Iterator.{first_from_Range}
 use Rattle.plan.specs.declared.tasks.Task.{Task}
-use Rattle.plan.specs.Promises.{plan_tasks}
 use Rattle.response.specs.Analysis.{meets, slack_list, first_missed}
 use Rattle.response.specs.Inner.{some_task}
 use Rattle.response.proofs.Sustainable.{all-schedulable}
@@ -24,7 +23,7 @@ searched ts xs n e (Some i) h =
 
 pub returns : goal.returns
 returns c =
-    let ts = plan_tasks c.args.self.now.plan.now in
+    let ts = c.args.self.now.tasks.now in
     let xs = c.args.self.now.periods.now in
     let found = first_from_Range (record { start = 0; end = length xs }) _ _ c.find.result
     (λ i. meets ts xs i ≡ false) (λ i. meets ts xs i ≡ true) c.find.ensures.ran

@@ -9,7 +9,6 @@ use Rattle.std.proofs.lemmas.Iterator.{YieldsList}
 use Rattle.std.proofs.lemmas.Iterator.Search.{all_from_yields_List}
 use Rattle.std.proofs.lemmas.Iterator.Splits.{YieldsList-from_shown_while}
 use Rattle.plan.specs.declared.tasks.Task.{Task}
-use Rattle.plan.specs.Promises.{plan_tasks}
 use Rattle.response.specs.Analysis.{meets, first_meet, schedulable}
 use Rattle.response.proofs.assignment.Assignment.is_schedulable.Goals as goal
 
@@ -38,7 +37,7 @@ road {s} n e = subst (λ (r : Range ℕ). YieldsList steps_back (λ x. x) s (dow
 pub returns : goal.returns
 unfolding schedulable
 returns c =
-    let ts = plan_tasks c.args.self.now.plan.now in
+    let ts = c.args.self.now.tasks.now in
     let xs = c.args.self.now.periods.now in
     let road = road (length xs) c.rev.ensures.source in
     let all = all_from_yields_List (meets ts xs) _ _ c.all.result c.all.ensures.ran road

@@ -1,7 +1,6 @@
 use Rattle.std.proofs.Common.{arith, ◌≡◌, ◌≤◌, ◌<◌, ℕ, List, length, Option, Some, sym, ◌∙◌}
 use Rattle.std.proofs.lemmas.Int.{ints}
 use Rattle.plan.specs.declared.tasks.Task.{Task}
-use Rattle.plan.specs.Promises.{plan_tasks}
 use Rattle.response.specs.Analysis.{deadline_at, max_response, response_time}
 use Rattle.response.specs.Inner.{Limits, some_time}
 use Rattle.response.proofs.Found.{found-some}
@@ -24,8 +23,7 @@ time {ts} {xs} {i} l h e f =
 pub response_from-requires : goal.response_from-requires
 response_from-requires c =
     let l = c.args.self.now.limits in
-    let own = rw c.deref.ensures.0 at c.own_demand.ensures in
-    (c.requires.0, utilization-begins l c.requires.0 own c.requires.1 c.begin_by_utilization-start.ensures)
+    (c.requires.0, utilization-begins l c.requires.0 c.own_demand.ensures c.requires.1 c.begin_by_utilization-start.ensures)
 
 pub overflow_cast-result-in-Some : goal.overflow_cast-result-in-Some
 overflow_cast-result-in-Some c =
@@ -42,7 +40,7 @@ pub returns-in-Some : goal.returns-in-Some
 returns-in-Some c =
     let t = time c.args.self.now.limits c.requires.0 c.response_from.ensures c.in-Some.is in
     let d = c.args.self.now.limits.most c.args.i in
-    let ts = plan_tasks c.args.self.now.plan.now in
+    let ts = c.args.self.now.tasks.now in
     let xs = c.args.self.now.periods.now in
     let e = slack-is (deadline_at ts xs c.args.i) (response_time ts xs c.args.i) (omega (arith, t.is, t.some)) in
     omega (arith, ints, c.deadline.ensures, e, t.is, t.most)

@@ -1,7 +1,7 @@
 use Rattle.std.proofs.lemmas.Grind.{common_steps}
 use native.Mathlib.Omega.{arith}
 use Rattle.plan.proofs.Columns.{zip-push}
-use Rattle.plan.proofs.record.Plan.column.Goals as goal
+use Rattle.plan.proofs.task_set.TaskSet.column.Goals as goal
 
 pub loop-task-preserved : goal.loop-task-preserved
 loop-task-preserved g c = grind (arith, common_steps, zip-push)
