@@ -19,7 +19,7 @@ use std::{io, str};
 
 fn main(rt: HostRuntime) -> io::Result<()> {
     let mut input = [0u8; 65536];
-    let size = input::read_input(rt.stdin(), &mut input)?;
+    let size = input::read_input(rt.stdin(), &mut input).map_err(|failure| failure.error)?;
     let Ok(lines) = str::from_utf8(&input[..size]) else {
         return Err(io::Error::from(io::ErrorKind::InvalidData));
     };

@@ -5,4 +5,4 @@ mod reading; // reading.rt: the reading of an input
 mod program; // program.rt: a program over one plan file
 
 pub use program::run;
-pub use reading::read_input;
+pub use reading::{ReadFailure, read_input};

@@ -1,4 +1,7 @@
-use super::reading::read_input;
+ghost use Rattle.std.specs.Prelude.{◌≡◌, ◌≤◌, IfOk, length};
+ghost use Rattle.listing.specs.Promises.{input_size};
+
+use super::reading::{ReadFailure, read_input};
 use listing::INPUT_SIZE;
 use plan::Fault;
 use std::convert::AsSlice;
@@ -27,6 +30,14 @@ impl Failure {
     }
 }
 
+// The input, whose buffer has a byte more than a plan file may have.
+fn read_file(stdin: impl Read + Drop, buffer: &mut [u8]) -> Result<usize, ReadFailure>
+    requires { length buffer.old ≡ input_size }
+    ensures { IfOk result (λ size. size ≤ length buffer.new) }
+{
+    read_input(stdin, buffer)
+}
+
 fn answer_input<T: AsSlice<u8> + Drop, F: FnOnce(&[u8]) -> Result<T, Fault>>(
     argument: Result<usize, FillError>,
     stdin: impl Read + Drop,
@@ -39,7 +50,7 @@ fn answer_input<T: AsSlice<u8> + Drop, F: FnOnce(&[u8]) -> Result<T, Fault>>(
         return Err(Failure::Usage);
     };
     let mut file = [0; INPUT_SIZE];
-    let size = read_input(stdin, &mut file).map_err(|_| Failure::Reading)?;
+    let size = read_file(stdin, &mut file).map_err(|_| Failure::Reading)?;
     let text = answer(&file[..size]).map_err(Failure::Refused)?;
     stdout
         .write_all(text.as_slice())
