@@ -1,4 +1,5 @@
 use super::example::{Call, Example};
+use super::file::TestFile;
 use super::show::{Bytes, Numbers, Refusal};
 use super::space::are_all;
 use listing::{INPUT_SIZE, Listing};
@@ -115,11 +116,22 @@ fn show_listing(rt: &impl Print, listing: &Listing) -> io::Result<()> {
     rt.write_all(listing)
 }
 
+// What program timetable writes of a file; nothing where it ends past its space.
+fn try_print(rt: &impl Print, file: &TestFile) -> io::Result<()> {
+    match file.whole() {
+        Some(bytes) => show_listing(rt, &listing::list_input(bytes)),
+        None => println!(rt;),
+    }
+}
+
 fn try_example(rt: &impl Print, example: &Example) -> io::Result<()> {
-    let label = example.label;
+    rt.write_all(example.label)?;
+    print!(rt; ":")?;
+    let Some(call) = &example.call else {
+        return Ok(());
+    };
     let file = example.file.bytes();
-    print!(rt; "{label}:")?;
-    match &example.call {
+    match call {
         Call::Read => try_read(rt, file),
         Call::Write { space } => try_write(rt, file, *space),
         Call::Times { space, periods } => try_times(rt, file, periods, *space),
@@ -130,20 +142,20 @@ fn try_example(rt: &impl Print, example: &Example) -> io::Result<()> {
         } => try_cheapest(rt, file, *budget, *space, *room),
         Call::Feeders { space, pairs } => try_feeders(rt, file, pairs, *space),
         Call::List { budget, room } => show_listing(rt, &list(file, *budget, *room)),
-        Call::Print => show_listing(rt, &listing::list_input(file)),
+        Call::Print => try_print(rt, &example.file),
     }
 }
 
-// The examples of the lines that are neither empty nor a comment.
-pub(crate) fn run(rt: &impl Print, lines: &str) -> io::Result<()> {
-    for line in lines.lines() {
-        if line.is_empty() || line.starts_with('#') {
+// The examples of the lines that a line feed ends and that are neither empty nor a comment. What a line leaves out
+// counts as 0 or is empty, of an unknown call only the label is shown, and output that cannot be written is left out.
+pub(crate) fn run(rt: &impl Print, lines: &[u8]) {
+    for line in lines.split_inclusive(|byte| *byte == b'\n') {
+        let Some(line) = line.strip_suffix(b"\n") else {
+            continue;
+        };
+        if line.is_empty() || line.starts_with(b"#") {
             continue;
         }
-        match Example::parse(line) {
-            Some(example) => try_example(rt, &example)?,
-            None => println!(rt; "no example: {line}")?,
-        }
+        let _ = try_example(rt, &Example::parse(line));
     }
-    Ok(())
 }

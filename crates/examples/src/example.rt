@@ -1,6 +1,7 @@
 use super::file::TestFile;
+use super::words::{number, number_u8, number_u32, piece};
 use arrayvec::ArrayVec;
-use std::str::SplitWhitespace;
+use std::array;
 
 // What an example calls on its file.
 #[derive(Drop)]
@@ -29,88 +30,80 @@ pub(crate) enum Call {
     Print,
 }
 
-// The number behind its label.
-fn labelled(words: &mut SplitWhitespace<'_>, label: &str) -> Option<u64> {
-    if words.next()? == label {
-        words.next()?.parse().ok()
-    } else {
-        None
-    }
+// Word k of a call; word 0 stands before the first space.
+fn word(call: &[u8], k: usize) -> &[u8] {
+    piece(call, b' ', k)
 }
 
-// The periods of a call, behind their number and, where there are any, the word `at`.
-fn listed(mut words: SplitWhitespace<'_>) -> Option<ArrayVec<u32, 17>> {
-    let count = labelled(&mut words, "periods")?;
-    let mut periods = ArrayVec::new();
-    for word in words.skip(1) {
-        periods.try_push(word.parse().ok()?).ok()?;
-    }
-    if periods.len() as u64 == count {
-        Some(periods)
-    } else {
-        None
-    }
+// The number at a word of a call.
+fn given(call: &[u8], k: usize) -> u64 {
+    number(word(call, k))
 }
 
-// The bytes of a list of pairs, behind their label.
-fn bytes(mut words: SplitWhitespace<'_>) -> Option<ArrayVec<u8, 512>> {
-    let mut bytes = ArrayVec::new();
-    if words.next()? != "pairs" {
-        return None;
+// The periods from word 7 of a call on, as many as word 5 says.
+fn listed(call: &[u8]) -> ArrayVec<u32, 17> {
+    let mut periods = ArrayVec::from(array::from_fn(|k| number_u32(word(call, 7 + k))));
+    periods.truncate(given(call, 5) as usize);
+    periods
+}
+
+// The bytes of a list of pairs from word 5 of a call on, as far as they have room.
+fn pairs(call: &[u8]) -> ArrayVec<u8, 512> {
+    let mut pairs = ArrayVec::new();
+    for word in call.split(|byte| *byte == b' ').skip(5) {
+        if !word.is_empty() {
+            let _ = pairs.try_push(number_u8(word));
+        }
     }
-    for word in words {
-        bytes.try_push(word.parse().ok()?).ok()?;
-    }
-    Some(bytes)
+    pairs
 }
 
 impl Call {
-    fn parse(call: &str) -> Option<Call> {
-        let mut words = call.split_whitespace();
-        match words.next()? {
-            "read" => Some(Call::Read),
-            "write" => Some(Call::Write {
-                space: labelled(&mut words, "space")? as usize,
-            }),
-            "times" => Some(Call::Times {
-                space: labelled(&mut words, "space")? as usize,
-                periods: listed(words)?,
-            }),
-            "cheapest" => Some(Call::Cheapest {
-                budget: labelled(&mut words, "budget")?,
-                space: labelled(&mut words, "space")? as usize,
-                room: labelled(&mut words, "room")? as usize,
-            }),
-            "feeders" => Some(Call::Feeders {
-                space: labelled(&mut words, "space")? as usize,
-                pairs: bytes(words)?,
-            }),
-            "list" => Some(Call::List {
-                budget: labelled(&mut words, "budget")?,
-                room: labelled(&mut words, "room")? as usize,
-            }),
-            "print" => Some(Call::Print),
-            _ => None,
-        }
+    // A space, the name of a call, of which the first letter counts, and numbers, each behind its label.
+    fn parse(call: &[u8]) -> Option<Call> {
+        Some(match call.get(1)? {
+            b'r' => Call::Read,
+            b'w' => Call::Write {
+                space: number_u32(word(call, 3)) as usize,
+            },
+            b't' => Call::Times {
+                space: given(call, 3) as usize,
+                periods: listed(call),
+            },
+            b'c' => Call::Cheapest {
+                budget: given(call, 3),
+                space: given(call, 5) as usize,
+                room: given(call, 7) as usize,
+            },
+            b'f' => Call::Feeders {
+                space: given(call, 3) as usize,
+                pairs: pairs(call),
+            },
+            b'l' => Call::List {
+                budget: given(call, 3),
+                room: given(call, 5) as usize,
+            },
+            b'p' => Call::Print,
+            _ => return None,
+        })
     }
 }
 
-// A label, a colon, a call, and, behind a bar, the words of its file.
+// A label, a colon, a call, a bar, and the words of its file.
 #[derive(Drop)]
 pub(crate) struct Example<'a> {
-    pub label: &'a str,
-    pub call: Call,
+    pub label: &'a [u8],
+    pub call: Option<Call>,
     pub file: TestFile,
 }
 
 impl<'a> Example<'a> {
-    pub(crate) fn parse(line: &'a str) -> Option<Example<'a>> {
-        let (label, rest) = line.split_once(':')?;
-        let (call, words) = rest.split_once('|').unwrap_or((rest, ""));
-        Some(Example {
-            label,
-            call: Call::parse(call)?,
-            file: TestFile::from_words(words.trim())?,
-        })
+    pub(crate) fn parse(line: &'a [u8]) -> Example<'a> {
+        let rest = piece(line, b':', 1);
+        Example {
+            label: piece(line, b':', 0),
+            call: Call::parse(piece(rest, b'|', 0)),
+            file: TestFile::from_words(piece(rest, b'|', 1)),
+        }
     }
 }

@@ -1,12 +1,13 @@
-ghost use Rattle.std.specs.Prelude.{◌≤◌, length};
+ghost use Rattle.std.specs.Prelude.{◌≤◌, IfSome, length};
 
 use super::small::SmallPlan;
+use super::words::{number, number_u8, number_u32};
 use listing::INPUT_SIZE;
 use plan::Task;
 
-const PLAN_P: &str = "%2 1 1 6 1000 1 2 1 8 1000 1 'gauge 'radio";
+const PLAN_P: &[u8] = b"%2 1 1 6 1000 1 2 1 8 1000 1 'gauge 'radio";
 
-const PLAN_Q: &str = "&2 1 1 6 1000 1 0 0 2 1 8 1000 1 0 0 'gauge 'radio";
+const PLAN_Q: &[u8] = b"&2 1 1 6 1000 1 0 0 2 1 8 1000 1 0 0 'gauge 'radio";
 
 #[derive(Clone, Copy)]
 pub(crate) enum Version {
@@ -39,41 +40,46 @@ enum Word<'a> {
     Seek(usize),
     Number(u32),
     Byte(u8),
-    Name(&'a str),
+    Name(&'a [u8]),
     Rows { version: Version, times: u8 },
     End,
 }
 
 impl<'a> Word<'a> {
-    fn parse(word: &'a str) -> Option<Word<'a>> {
-        let mut chars = word.chars();
-        let sign = chars.next()?;
-        let rest = chars.as_str();
-        let version = match sign {
-            '%' | '*' => Version::One,
-            '&' | '+' => Version::Two,
-            '@' => return Some(Word::Seek(rest.parse().ok()?)),
-            '.' => return Some(Word::Byte(rest.parse().ok()?)),
-            '\'' => return Some(Word::Name(rest)),
-            ';' => return Some(Word::End),
-            _ => return Some(Word::Number(word.parse().ok()?)),
-        };
-        let count = rest.parse().ok()?;
+    // The word that its first byte names; none where that is another.
+    fn parse(word: &'a [u8]) -> Option<Word<'a>> {
+        let (sign, rest) = word.split_first()?;
+        let tasks = (number_u32(word) % 17) as u8;
+        let times = (number(word) % 128) as u8;
         Some(match sign {
-            '%' | '&' => Word::Header {
-                version,
-                tasks: count,
+            b'%' => Word::Header {
+                version: Version::One,
+                tasks,
             },
-            _ => Word::Rows {
-                version,
-                times: count,
+            b'&' => Word::Header {
+                version: Version::Two,
+                tasks,
             },
+            b'*' => Word::Rows {
+                version: Version::One,
+                times,
+            },
+            b'+' => Word::Rows {
+                version: Version::Two,
+                times,
+            },
+            b'@' => Word::Seek(number(word) as usize),
+            b'.' => Word::Byte(number_u8(word)),
+            b'\'' => Word::Name(rest),
+            b';' => Word::End,
+            b'0'..=b'9' => Word::Number(number_u32(word)),
+            _ => return None,
         })
     }
 }
 
 // A plan file that is written piece by piece, over zeros: words write over what is there, and past the file's end,
-// which is set apart. It ends where its space does, at the latest.
+// which is set apart. What they write past its space is lost.
 #[derive(Drop)]
 pub(crate) struct TestFile {
     space: [u8; INPUT_SIZE],
@@ -91,17 +97,18 @@ impl TestFile {
         }
     }
 
-    // The file that words describe: they change plan P, or plan Q behind $, or describe all of it from a header on.
-    pub(crate) fn from_words(words: &str) -> Option<TestFile> {
-        let (base, changes) = match words.strip_prefix('$') {
-            Some(changes) => (PLAN_Q, changes),
-            None if words.starts_with(['%', '&']) => ("", words),
-            None => (PLAN_P, words),
+    // The file that words describe, behind a space: they change plan P, or plan Q behind $, or describe all of it from
+    // a header on.
+    pub(crate) fn from_words(words: &[u8]) -> TestFile {
+        let base = match words.get(1) {
+            Some(b'%' | b'&') => &[],
+            Some(b'$') => PLAN_Q,
+            _ => PLAN_P,
         };
         let mut file = TestFile::new();
-        file.write(base)?;
-        file.write(changes)?;
-        Some(file)
+        file.write(base);
+        file.write(words);
+        file
     }
 
     // The file of a plan in a version, with the names A, B and C behind its tasks.
@@ -118,19 +125,28 @@ impl TestFile {
         file
     }
 
+    // The file, unless it ends past its space.
+    pub(crate) fn whole(&self) -> Option<&[u8]>
+        ensures { IfSome result (λ bytes. length bytes.now ≤ INPUT_SIZE) }
+    {
+        self.space.get(..self.end)
+    }
+
+    // The file, of which no byte is left where it ends past its space.
     pub(crate) fn bytes(&self) -> &[u8]
         ensures { length result.now ≤ INPUT_SIZE }
     {
-        &self.space[..self.end.min(INPUT_SIZE)]
+        self.whole().unwrap_or(&[])
     }
 
     // Writes words from the start on.
-    fn write(&mut self, words: &str) -> Option<()> {
+    fn write(&mut self, words: &[u8]) {
         self.at = 0;
-        for word in words.split_whitespace() {
-            self.put_word(Word::parse(word)?);
+        for word in words.split(|byte| *byte == b' ') {
+            if let Some(word) = Word::parse(word) {
+                self.put_word(word);
+            }
         }
-        Some(())
     }
 
     fn put_word(&mut self, word: Word) {
@@ -139,7 +155,7 @@ impl TestFile {
             Word::Seek(at) => self.at = at,
             Word::Number(number) => self.put(&number.to_le_bytes()),
             Word::Byte(byte) => self.put_byte(byte),
-            Word::Name(name) => self.put_name(name.as_bytes()),
+            Word::Name(name) => self.put_name(name),
             Word::Rows { version, times } => self.repeat(version.row_size(), times),
             Word::End => self.end = self.at,
         }
@@ -149,7 +165,7 @@ impl TestFile {
         if let Some(place) = self.space.get_mut(self.at) {
             *place = byte;
         }
-        self.at = self.at.saturating_add(1);
+        self.at = self.at.wrapping_add(1);
     }
 
     fn put(&mut self, bytes: &[u8]) {

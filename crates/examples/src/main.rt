@@ -2,6 +2,7 @@
 
 // Examples and tests that are run, not proved: each line says what was tried and what came out.
 mod space; // space.rt: a space whose numbers are all the same
+mod words; // words.rt: a text's pieces and numbers
 mod file; // file.rt: plan files, from words and from tasks
 mod example; // example.rt: a line of file stdin
 mod show; // show.rt: refusals, numbers and bytes as text
@@ -15,14 +16,13 @@ mod planner; // planner.rt: CHEAPEST against the plain rounds, and these against
 mod chains; // chains.rt: FEEDERS against an enumeration of chains
 mod many; // many.rt: all of these over many drawn plans
 
-use std::{io, str};
+use input::ReadFailure;
 
-fn main(rt: HostRuntime) -> io::Result<()> {
+// Tells nothing but what came out, and ends with status 0: a read that fails ends the input, and a write that fails
+// leaves output out.
+fn main(rt: HostRuntime) {
     let mut input = [0u8; 65536];
-    let size = input::read_input(rt.stdin(), &mut input).map_err(|failure| failure.error)?;
-    let Ok(lines) = str::from_utf8(&input[..size]) else {
-        return Err(io::Error::from(io::ErrorKind::InvalidData));
-    };
-    cases::run(&rt, lines)?;
-    many::run(&rt)
+    let (Ok(size) | Err(ReadFailure { size, .. })) = input::read_input(rt.stdin(), &mut input);
+    cases::run(&rt, &input[..size]);
+    let _ = many::run(&rt);
 }
