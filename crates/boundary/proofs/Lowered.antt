@@ -239,7 +239,7 @@ module _ {ts : List Task} {node : List ℕ} where
 
         module _ {v : ℕ} (m : LastMiss ts x i i (length x) (get_or node i 0 - 1) (get_or x i 0) v) where
           -- the present period meets all deadlines
-          last-below : v < get_or x i 0
+          pub last-below : v < get_or x i 0
           last-below = elim (le-or-lt (get_or x i 0) v) [
             | inl h ↦ let z : v ≡ get_or x i 0 = omega (arith, m.upto) in
                 absurd (both g.meets.met (rw (z, set-get_or x i 0) at (m.misses (omega (arith, g.meets.above i, node-some)))))

@@ -33,7 +33,7 @@ use Rattle.optimizer.proofs.Guarantees.{search-optimal, search-rounds, search-an
 pub sound : {ts : List Task} → AllValid ts → Sound ts (schedulable ts)
 sound {ts} v = record { ranged = ranged ts v; monotone = λ xs ys w w' m e. sustainable-within ts v w ys m e }
 
-of_two : (m : ℕ) {n : ℕ} → (n ≡ m) ⊎ (n ≡ suc m) → (m ≤ n) × (n ≤ suc m)
+pub of_two : (m : ℕ) {n : ℕ} → (n ≡ m) ⊎ (n ≡ suc m) → (m ≤ n) × (n ≤ suc m)
 of_two m k = elim k [ inl e ↦ (omega arith, omega arith) | inr e ↦ (omega arith, omega arith) ]
 
 -- 31 and 32
@@ -60,7 +60,7 @@ module _ (ts : List Task) where
   unfolding infeasible_fault
   tasks-pass e = not-false longest (if-passed (not longest) 31 _ (or-second alone (none_fault ts) e))
 
-  tasks-break : AllValid ts → ((infeasible_fault ts).number ≡ 0 → ⊥)
+  pub tasks-break : AllValid ts → ((infeasible_fault ts).number ≡ 0 → ⊥)
       → (((infeasible_fault ts).number ≡ 31) ⊎ ((infeasible_fault ts).number ≡ 32)) × (longest ≡ false)
   unfolding infeasible_fault
   tasks-break v h = elim (eq-or-ne alone.number 0) [

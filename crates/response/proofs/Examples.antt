@@ -26,6 +26,8 @@ pub record Published : Type 0 where
   pub p23 : slacks_of plan_p (2 ∷ 3 ∷ []) ≡ pos 1 ∷ negsuc 0 ∷ []
   pub p33 : slacks_of plan_p (3 ∷ 3 ∷ []) ≡ pos 2 ∷ pos 0 ∷ []
   pub p18 : slacks_of plan_p (1 ∷ 8 ∷ []) ≡ pos 0 ∷ no_slack ∷ []
+  pub s839 : slacks_of plan_s (105 ∷ 140 ∷ 210 ∷ 280 ∷ 420 ∷ 839 ∷ [])
+      ≡ pos 85 ∷ pos 90 ∷ pos 120 ∷ pos 90 ∷ pos 10 ∷ negsuc 0 ∷ []
   pub s840 : slacks_of plan_s (105 ∷ 140 ∷ 210 ∷ 280 ∷ 420 ∷ 840 ∷ [])
       ≡ pos 85 ∷ pos 90 ∷ pos 120 ∷ pos 90 ∷ pos 10 ∷ pos 0 ∷ []
 
@@ -59,4 +61,4 @@ slacks-full = rw (computed.two, computed.gauge, radio)
 
 pub published : Published
 unfolding value_of bytes_of words_of header_bytes canonical first_from file_fault tasks_of slack_list busy_period climb_from demand
-published = record { p24 = refl; p23 = refl; p33 = refl; p18 = slacks-full; s840 = refl }
+published = record { p24 = refl; p23 = refl; p33 = refl; p18 = slacks-full; s839 = refl; s840 = refl }
