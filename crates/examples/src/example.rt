@@ -1,3 +1,5 @@
+ghost use Rattle.std.specs.Prelude.{◌≡◌, length};
+
 use super::file::TestFile;
 use super::words::{number, number_u8, number_u32, piece};
 use arrayvec::ArrayVec;
@@ -40,9 +42,16 @@ fn given(call: &[u8], k: usize) -> u64 {
     number(word(call, k))
 }
 
-// The periods from word 7 of a call on, as many as word 5 says.
-fn listed(call: &[u8]) -> ArrayVec<u32, 17> {
-    let mut periods = ArrayVec::from(array::from_fn(|k| number_u32(word(call, 7 + k))));
+// The numbers from word 7 of a call on.
+fn listed(call: &[u8]) -> [u32; 17]
+    ensures { length result ≡ 17 }
+{
+    array::from_fn(|k| number_u32(word(call, 7 + k)))
+}
+
+// The periods of a call: as many of its numbers as word 5 says.
+fn periods(call: &[u8]) -> ArrayVec<u32, 17> {
+    let mut periods = ArrayVec::from(listed(call));
     periods.truncate(given(call, 5) as usize);
     periods
 }
@@ -68,7 +77,7 @@ impl Call {
             },
             b't' => Call::Times {
                 space: given(call, 3) as usize,
-                periods: listed(call),
+                periods: periods(call),
             },
             b'c' => Call::Cheapest {
                 budget: given(call, 3),

@@ -46,7 +46,7 @@ enum Word<'a> {
 }
 
 impl<'a> Word<'a> {
-    // The word that its first byte names; none where that is another.
+    // The word that its first byte names; none of a byte that no word begins with.
     fn parse(word: &'a [u8]) -> Option<Word<'a>> {
         let (sign, rest) = word.split_first()?;
         let tasks = (number_u32(word) % 17) as u8;

@@ -30,7 +30,8 @@ impl Failure {
     }
 }
 
-// The input, whose buffer has a byte more than a plan file may have.
+// Reads the input into a buffer that holds a byte more than a plan file may have, so that a longer one is seen to be
+// longer.
 fn read_file(stdin: impl Read + Drop, buffer: &mut [u8]) -> Result<usize, ReadFailure>
     requires { length buffer.old ≡ input_size }
     ensures { IfOk result (λ size. size ≤ length buffer.new) }

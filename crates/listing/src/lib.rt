@@ -6,8 +6,8 @@ mod lines; // lines.rt: the lines of a listing
 mod listing; // listing.rt: the whole text
 
 pub use listing::{INPUT_SIZE, list_input, list_plan};
-pub use writer::Listing;
+pub use writer::{LISTING_SIZE, Listing};
 
 // for the other programs
-pub use lines::list_refusal;
+pub use lines::{REFUSAL_SIZE, list_refusal};
 pub use writer::put_labelled;

@@ -23,10 +23,13 @@ fn refusal(fault: Fault, end: u8) -> Listing
     text
 }
 
+// The longest line of a refusal.
+pub const REFUSAL_SIZE: usize = 50;
+
 // A refusal's line.
 pub fn list_refusal(fault: Fault) -> Listing
     ensures is { result.items ≡ line (refusal_fields fault) }
-    ensures few { length result.items ≤ 50 }
+    ensures few { length result.items ≤ REFUSAL_SIZE }
 {
     refusal(fault, b'\n')
 }

@@ -6,7 +6,7 @@ use arrayvec::ArrayVec;
 use itoa::Buffer;
 
 // A first line of 54 bytes and 16 lines of 59 fit.
-const LISTING_SIZE: usize = 1024;
+pub const LISTING_SIZE: usize = 1024;
 
 // A listing's text. Fields are put one by one: `write!` promises its bytes where it succeeds, but not that it does.
 pub type Listing = ArrayVec<u8, LISTING_SIZE>;

@@ -5,7 +5,7 @@ mod faults; // faults.rt: a refusal's number and place
 mod errors; // errors.rt: why a file is refused, or its form not written
 mod words; // words.rt: little-endian numbers
 mod tasks; // tasks.rt: one task
-mod task_set; // task_set.rt: the tasks of a plan, before any rule
+mod task_set; // task_set.rt: up to sixteen tasks, of which no rule is known
 mod record; // record.rt: the plan record and its limits
 mod layout; // layout.rt: header, areas and gaps
 mod located; // located.rt: a file and its areas

@@ -16,7 +16,8 @@ pub struct NameWords {
     pub second: u64,
 }
 
-// Letters first, in a test of their own: of one test of all three the compiler makes a row that ends with them.
+// Letters first, in a test of their own: made one test of all three, the compiler tries letters last, and most bytes
+// of names are letters.
 fn is_name_byte(b: u8) -> bool
     ensures { result ≡ is_name_byte b }
 {

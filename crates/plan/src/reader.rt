@@ -22,6 +22,7 @@ impl Located<'_> {
         ensures refuses { read_fault result ≡ tasks_fault self.now.file.now }
         ensures decodes { IfOk result (λ tasks. Decodes self.now.file.now (tasks_in tasks)) }
     {
+        // in place: `TaskSet::new` is handed its rows, which copies them
         let mut tasks = TaskSet {
             rows: [Task::default(); Plan::MAX_TASKS],
             count: 0,

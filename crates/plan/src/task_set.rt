@@ -1,4 +1,4 @@
-ghost use Rattle.std.specs.Prelude.{◌≡◌, [], ◌∷◌, ◌++◌, ◌<◌, ◌≤◌, length, take};
+ghost use Rattle.std.specs.Prelude.{◌≡◌, [], ◌∷◌, ◌++◌, ◌<◌, ◌≤◌, length, min, take};
 ghost use Rattle.std.specs.List.{AllZip};
 ghost use Rattle.plan.specs.Tasks.{max_tasks};
 
@@ -18,9 +18,11 @@ pub struct TaskSet {
 impl TaskSet {
     ghost use Rattle.plan.specs.TaskSets.{tasks_in};
 
-    // The first tasks of a table of rows.
+    // The first tasks of a table of rows; all of it where more are asked for.
     pub fn new(tasks: usize, rows: [Task; Plan::MAX_TASKS]) -> TaskSet
-        ensures { tasks_in result ≡ take tasks rows }
+        ensures tasks { tasks_in result ≡ take tasks rows }
+        ensures rows { result.rows ≡ rows }
+        ensures count { result.count ≡ min tasks max_tasks }
     {
         TaskSet {
             rows,
